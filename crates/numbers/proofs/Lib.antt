@@ -1,0 +1,13 @@
+pub mod Bools
+pub mod Trims
+pub mod Places
+pub mod Prefixes
+pub mod Spaced
+pub mod Parts
+pub mod Integers
+pub mod Values
+pub mod Quoted
+pub mod Names
+pub mod Readings
+pub mod NumberCases
+pub mod RegisterCases

@@ -1,0 +1,93 @@
+-- `imm::signed_digits`: the tests are those of the definition, and the rest of the text is what stands after the sign.
+use Prim.Native.Nat.{ℕ, _≤_}
+use mathlib.Core.Path.{_≡_, refl, sym, _∙_}
+use mathlib.Core.List.{[], _∷_}
+use native.Mathlib.Omega.{arith}
+use lib.ListN.{length}
+use denote.Ref.{now}
+use Rattle.numbers.proofs.Prefixes.{prefix-length}
+use Rattle.numbers.specs.Numbers.{signedDigits}
+use Rattle.numbers.proofs.Trims.{tail}
+use borrow.Author.Needs.{needs}
+use Rattle.numbers.proofs.imm.signed_digits.Statement.{statement}
+use Rattle.numbers.proofs.imm.signed_digits.Tie as tie
+
+-- a text that begins with the sign has a byte
+after-minus : (c : tie.Then1) → 1 ≤ length (now (c .before .before .before .before .args .digits))
+after-minus c = prefix-length (45 ∷ []) _ (sym (c .before .starts-with .ensures) ∙ c .if1 .taken)
+
+-- a text that begins with the sign has a byte
+after-plus : (c : tie.Then2) → 1 ≤ length (now (c .before .before .before .before .before .before .before .args .digits))
+after-plus c = prefix-length (43 ∷ []) _ (sym (c .before .starts-with2 .ensures) ∙ c .if2 .taken)
+
+slice-aggregate-starts-with : tie.Need-slice-aggregate-starts-with
+slice-aggregate-starts-with c = search needs
+
+starts-with-requires : tie.Need-starts-with-requires
+starts-with-requires c κs = search needs
+
+sub-negative : tie.Need-sub-negative
+sub-negative c = omega (arith, after-minus c)
+
+part-negative-start : tie.Need-part-negative-start
+part-negative-start c = omega (arith, after-minus c)
+
+part-negative-end : tie.Need-part-negative-end
+part-negative-end c = search needs
+
+negative-requires : tie.Need-negative-requires
+negative-requires c κs = search needs
+
+returns : tie.Need-returns
+unfolding signedDigits
+returns c = simp (c .negative .ensures, c .before .before .if1 .taken, ← c .before .before .before .starts-with .ensures, tail)
+
+slice-aggregate-starts-with-2 : tie.Need-slice-aggregate-starts-with-2
+slice-aggregate-starts-with-2 c = search needs
+
+starts-with-requires-2 : tie.Need-starts-with-requires-2
+starts-with-requires-2 c κs = search needs
+
+sub-positive : tie.Need-sub-positive
+sub-positive c = omega (arith, after-plus c)
+
+part-positive-start : tie.Need-part-positive-start
+part-positive-start c = omega (arith, after-plus c)
+
+part-positive-end : tie.Need-part-positive-end
+part-positive-end c = search needs
+
+positive-requires : tie.Need-positive-requires
+positive-requires c κs = search needs
+
+returns-2 : tie.Need-returns-2
+unfolding signedDigits
+returns-2 c = simp (c .positive .ensures, c .before .before .if2 .taken, ← c .before .before .before .starts-with2 .ensures, c .before .before .before .before .before .if1 .left, ← c .before .before .before .before .before .before .starts-with .ensures, tail)
+
+positive-requires-2 : tie.Need-positive-requires-2
+positive-requires-2 c κs = search needs
+
+returns-3 : tie.Need-returns-3
+unfolding signedDigits
+returns-3 c = simp (c .positive2 .ensures, c .before .if2 .left, ← c .before .before .starts-with2 .ensures, c .before .before .before .before .if1 .left, ← c .before .before .before .before .before .starts-with .ensures, tail)
+
+pub signed-digits-spec : {M : Type 1} → statement M
+signed-digits-spec =
+    tie.close
+    (tie.spec
+    slice-aggregate-starts-with
+    starts-with-requires
+    sub-negative
+    part-negative-start
+    part-negative-end
+    negative-requires
+    returns
+    slice-aggregate-starts-with-2
+    starts-with-requires-2
+    sub-positive
+    part-positive-start
+    part-positive-end
+    positive-requires
+    returns-2
+    positive-requires-2
+    returns-3)

@@ -1,0 +1,63 @@
+-- `text::leading_spaces`: the invariant says that the white space from i on, plus i, is the white space from the start.
+use Prim.Native.Nat.{_+_, _≤_, _-_}
+use mathlib.Core.Path.{_≡_, sym, _∙_}
+use native.Mathlib.Omega.{arith}
+use lib.ListN.{length, drop}
+use denote.Ref.{now}
+use borrow.Author.Needs.{needs}
+use borrow.Author.Tests.{not-true, not-false}
+use Rattle.numbers.specs.Text.{leadingSpaces}
+use Rattle.numbers.proofs.Trims.{space-more, space-stop, space-end}
+use Rattle.numbers.proofs.text.leading_spaces.Statement.{statement}
+use Rattle.numbers.proofs.text.leading_spaces.Tie as tie
+
+abbrev Inv-loop : tie.InvT-loop
+Inv-loop s i₀ i = (i ≤ length s) × (i + leadingSpaces (drop i s) ≡ leadingSpaces s)
+
+abbrev μ-loop : tie.MeasureT-loop
+μ-loop s i₀ i = length s - i
+
+loop-holds : tie.Need-loop-holds Inv-loop μ-loop
+loop-holds c = search needs
+
+shared-slice-read-is-space : tie.Need-shared-slice-read-is-space Inv-loop μ-loop
+shared-slice-read-is-space c = search needs
+
+is-space-requires : tie.Need-is-space-requires Inv-loop μ-loop
+is-space-requires c κs = search needs
+
+returns : tie.Need-returns Inv-loop μ-loop
+returns c =
+    let at = c .before .before .before .before in
+    let s = now (at .before .before .args .s) in
+    omega (arith, space-stop s (at .loop .i) (search needs) (sym (c .before .is-space .ensures) ∙ not-true _ (c .if1 .taken)))
+
+add-i : tie.Need-add-i Inv-loop μ-loop
+add-i c = search needs
+
+loop-less : tie.Need-loop-less Inv-loop μ-loop
+loop-less c = search needs
+
+loop-again : tie.Need-loop-again Inv-loop μ-loop
+loop-again c =
+    let at = c .before .before .before .before in
+    let s = now (at .before .before .args .s) in
+    omega (arith, space-more s (at .loop .i) (search needs) (sym (c .before .is-space .ensures) ∙ not-false _ (c .if1 .left)))
+
+returns-2 : tie.Need-returns-2 Inv-loop μ-loop
+returns-2 c = omega (arith, space-end (now (c .before .before .before .args .s)) (c .before .loop .i) (c .loop-test .left))
+
+pub leading-spaces-spec : {M : Type 1} → statement M
+leading-spaces-spec =
+    tie.close
+    (tie.spec
+    Inv-loop
+    μ-loop
+    loop-holds
+    shared-slice-read-is-space
+    is-space-requires
+    returns
+    add-i
+    loop-less
+    loop-again
+    returns-2)

@@ -1,0 +1,68 @@
+// Digits in base 2, 10 and 16, with a limit.
+ghost use mathlib.Core.Path.{_≡_};
+ghost use Rattle.numbers.specs.Numbers.{baseOf, digitOf, digitsOf, digitsValue};
+
+pub enum Radix {
+    Binary,
+    Decimal,
+    Hex,
+}
+
+impl Radix {
+    pub fn base(self) -> u64
+        ensures { λ r. ⌜ r ≡ baseOf self ⌝ }
+    {
+        match self {
+            Radix::Binary => 2,
+            Radix::Decimal => 10,
+            Radix::Hex => 16,
+        }
+    }
+}
+
+// The value of digits, or no digits of the base, or a value above the limit.
+pub enum Digits {
+    Value(u64),
+    Invalid,
+}
+
+// The value of a digit, or 16 for a byte that is none.
+pub fn digit(b: u8) -> u64
+    ensures { λ r. ⌜ r ≡ digitOf b ⌝ }
+{
+    match b {
+        b'0'..=b'9' => (b - b'0') as u64,
+        b'A'..=b'F' => (b - b'A' + 10) as u64,
+        b'a'..=b'f' => (b - b'a' + 10) as u64,
+        _ => 16,
+    }
+}
+
+// The value of s, where s is one digit or more, nothing else, and the value is at most the limit.
+pub fn parse_digits(s: &[u8], radix: Radix, limit: u64) -> Digits
+    ensures { λ r. ⌜ digitsValue r ≡ digitsOf (baseOf radix) limit (now (s .entry)) ⌝ }
+{
+    if s.len() == 0 {
+        return Digits::Invalid;
+    }
+    let base = radix.base();
+    let most = limit / base;
+    let mut value: u64 = 0;
+    let mut i = 0;
+    while i < s.len() {
+        let d = digit(s[i]);
+        if base <= d {
+            return Digits::Invalid;
+        }
+        if most < value {
+            return Digits::Invalid;
+        }
+        let shifted = value * base;
+        if limit - shifted < d {
+            return Digits::Invalid;
+        }
+        value = shifted + d;
+        i += 1;
+    }
+    Digits::Value(value)
+}

@@ -1,0 +1,142 @@
+// Numbers: an optional sign, a base, digits with a sign of their own, or a character literal.
+use crate::digits::Digits;
+use crate::digits::Radix;
+use crate::digits::parse_digits;
+use crate::ints::Checked;
+use crate::ints::checked_neg;
+use crate::ints::in_signed32;
+use crate::ints::in_unsigned32;
+use crate::literals::parse_char_lit;
+use crate::text::starts_with;
+use crate::text::trim;
+ghost use mathlib.Core.Path.{_≡_};
+ghost use Prim.Native.Nat.{_-_, _^_};
+ghost use Rattle.numbers.specs.Numbers.{baseOf, digitsOf, plus, minus, signedDigits, prefixed, negated};
+ghost use Rattle.numbers.specs.Numbers.{outerSigned, numberOf, literalOf, imm64Of, narrowed, immOf, immValue, imm64Value};
+
+pub enum Imm {
+    Value(i32),
+    Invalid,
+}
+
+pub enum Imm64 {
+    Value(i64),
+    Invalid,
+}
+
+// Digits without a sign, or after a plus.
+fn positive(s: &[u8], radix: Radix) -> Imm64
+    ensures { λ r. ⌜ imm64Value r ≡ plus (digitsOf (baseOf radix) (2 ^ 63 - 1) (now (s .entry))) ⌝ }
+{
+    let Digits::Value(n) = parse_digits(s, radix, 9223372036854775807) else {
+        return Imm64::Invalid;
+    };
+    Imm64::Value(n as i64)
+}
+
+// Digits after a minus, which may be one more than without it.
+fn negative(s: &[u8], radix: Radix) -> Imm64
+    ensures { λ r. ⌜ imm64Value r ≡ minus (digitsOf (baseOf radix) (2 ^ 63) (now (s .entry))) ⌝ }
+{
+    let Digits::Value(n) = parse_digits(s, radix, 9223372036854775808) else {
+        return Imm64::Invalid;
+    };
+    if n == 0 {
+        return Imm64::Value(0);
+    }
+    Imm64::Value(-1 - ((n - 1) as i64))
+}
+
+// Digits with a sign of their own or without.
+fn signed_digits(digits: &[u8], radix: Radix) -> Imm64
+    ensures { λ r. ⌜ imm64Value r ≡ signedDigits (baseOf radix) (now (digits .entry)) ⌝ }
+{
+    if starts_with(digits, b"-") {
+        return negative(&digits[1..], radix);
+    }
+    if starts_with(digits, b"+") {
+        return positive(&digits[1..], radix);
+    }
+    positive(digits, radix)
+}
+
+// A number after its outer sign.
+fn prefixed_number(s: &[u8]) -> Imm64
+    ensures { λ r. ⌜ imm64Value r ≡ prefixed (now (s .entry)) ⌝ }
+{
+    if starts_with(s, b"0x") | starts_with(s, b"0X") {
+        return signed_digits(&s[2..], Radix::Hex);
+    }
+    if starts_with(s, b"0b") | starts_with(s, b"0B") {
+        return signed_digits(&s[2..], Radix::Binary);
+    }
+    signed_digits(s, Radix::Decimal)
+}
+
+// A number after a minus.
+fn negated_number(s: &[u8]) -> Imm64
+    ensures { λ r. ⌜ imm64Value r ≡ negated (prefixed (now (s .entry))) ⌝ }
+{
+    let Imm64::Value(v) = prefixed_number(s) else {
+        return Imm64::Invalid;
+    };
+    let Checked::Fits(n) = checked_neg(v) else {
+        return Imm64::Invalid;
+    };
+    Imm64::Value(n)
+}
+
+// A number without white space around it.
+fn trimmed_number(s: &[u8]) -> Imm64
+    ensures { λ r. ⌜ imm64Value r ≡ outerSigned (now (s .entry)) ⌝ }
+{
+    if starts_with(s, b"-") {
+        return negated_number(&s[1..]);
+    }
+    if starts_with(s, b"+") {
+        return prefixed_number(&s[1..]);
+    }
+    prefixed_number(s)
+}
+
+pub fn parse_signed_prefixed_i64(s: &[u8]) -> Imm64
+    ensures { λ r. ⌜ imm64Value r ≡ numberOf (now (s .entry)) ⌝ }
+{
+    trimmed_number(trim(s))
+}
+
+pub fn parse_imm64(s: &[u8]) -> Imm64
+    ensures { λ r. ⌜ imm64Value r ≡ imm64Of (now (s .entry)) ⌝ }
+{
+    let t = trim(s);
+    if starts_with(t, b"'") {
+        return widened(parse_char_lit(t));
+    }
+    trimmed_number(t)
+}
+
+// The same number in 64 bits.
+pub fn widened(n: Imm) -> Imm64
+    ensures { λ r. ⌜ imm64Value r ≡ immValue n ⌝ }
+{
+    match n {
+        Imm::Value(v) => Imm64::Value(v as i64),
+        Imm::Invalid => Imm64::Invalid,
+    }
+}
+
+// -2^31 to 2^32 - 1, the upper half as negative.
+pub fn parse_imm(s: &[u8]) -> Imm
+    ensures { λ r. ⌜ immValue r ≡ immOf (now (s .entry)) ⌝ }
+{
+    let Imm64::Value(v) = parse_imm64(s) else {
+        return Imm::Invalid;
+    };
+    if in_signed32(v) {
+        return Imm::Value(v as i32);
+    }
+    if in_unsigned32(v) {
+        return Imm::Value((v - 4294967296) as i32);
+    }
+    Imm::Invalid
+}

@@ -1,0 +1,96 @@
+// Signed numbers: sums and signs within 64 bits, ranges, and the bits of a number.
+ghost use mathlib.Core.Path.{_≡_};
+ghost use lib.IntN.{negℤ, _+ℤ_};
+ghost use Rattle.numbers.specs.Ints.{fit64, checkedValue, signTimes, bits};
+ghost use Rattle.numbers.specs.Ints.{isByte, isHalf, isSigned12, isSigned32, isUnsigned32};
+
+// A number that 64 signed bits hold, or one beyond them.
+pub enum Checked {
+    Fits(i64),
+    Beyond,
+}
+
+pub fn checked_add(a: i64, b: i64) -> Checked
+    ensures { λ r. ⌜ checkedValue r ≡ fit64 (a +ℤ b) ⌝ }
+{
+    if b < 0 {
+        if a < -9223372036854775808 - b {
+            return Checked::Beyond;
+        }
+        return Checked::Fits(a + b);
+    }
+    if 9223372036854775807 - b < a {
+        return Checked::Beyond;
+    }
+    Checked::Fits(a + b)
+}
+
+pub fn checked_neg(v: i64) -> Checked
+    ensures { λ r. ⌜ checkedValue r ≡ fit64 (negℤ v) ⌝ }
+{
+    if v == -9223372036854775808 {
+        return Checked::Beyond;
+    }
+    Checked::Fits(-v)
+}
+
+// v, negated where the sign is a minus.
+pub fn checked_sign(minus: bool, v: i64) -> Checked
+    ensures { λ r. ⌜ checkedValue r ≡ fit64 (signTimes minus v) ⌝ }
+{
+    if minus {
+        return checked_neg(v);
+    }
+    Checked::Fits(v)
+}
+
+pub fn in_byte(v: i32) -> bool
+    ensures { λ r. ⌜ r ≡ isByte v ⌝ }
+{
+    (0 <= v) & (v <= 255)
+}
+
+pub fn in_half(v: i32) -> bool
+    ensures { λ r. ⌜ r ≡ isHalf v ⌝ }
+{
+    (0 <= v) & (v <= 65535)
+}
+
+// 12 signed bits: an addi's number.
+pub fn in_signed12(v: i32) -> bool
+    ensures { λ r. ⌜ r ≡ isSigned12 v ⌝ }
+{
+    (-2048 <= v) & (v <= 2047)
+}
+
+pub fn in_signed32(v: i64) -> bool
+    ensures { λ r. ⌜ r ≡ isSigned32 v ⌝ }
+{
+    (-2147483648 <= v) & (v <= 2147483647)
+}
+
+pub fn in_unsigned32(v: i64) -> bool
+    ensures { λ r. ⌜ r ≡ isUnsigned32 v ⌝ }
+{
+    (0 <= v) & (v <= 4294967295)
+}
+
+// The 64 bits of v, as they are stored.
+pub fn bits_of_i64(v: i64) -> u64
+    ensures { λ r. ⌜ r ≡ bits 64 v ⌝ }
+{
+    if v < 0 {
+        return 18446744073709551615 - ((-1 - v) as u64);
+    }
+    v as u64
+}
+
+// The 32 bits of v, as they are stored.
+pub fn bits_of_i32(v: i32) -> u32
+    ensures { λ r. ⌜ r ≡ bits 32 v ⌝ }
+{
+    if v < 0 {
+        return 4294967295 - ((-1 - v) as u32);
+    }
+    v as u32
+}

@@ -1,0 +1,194 @@
+// White space, trimming, the comment cut, prefixes and names, on slices and spans.
+ghost use mathlib.Core.Path.{_≡_};
+ghost use Prim.Native.Nat.{_<_};
+ghost use lib.ListN.{length, drop};
+ghost use Rattle.numbers.specs.Text.{isSpace, leadingSpaces, trimEnd, trimmed, trimSpan, spanned};
+ghost use Rattle.numbers.specs.Text.{indexOf, before, uncommented, statementSpan};
+ghost use Rattle.numbers.specs.Text.{startsWith, same, oneSpacedByte, oneSpacedHead, oneSpaced};
+
+// A part of a text: where it starts, and how many bytes it has.
+pub struct Span {
+    pub start: usize,
+    pub len: usize,
+}
+
+pub fn is_space(b: u8) -> bool
+    ensures { λ r. ⌜ r ≡ isSpace b ⌝ }
+{
+    (b == b' ') | ((9 <= b) & (b <= 13))
+}
+
+// How many bytes of white space s begins with.
+pub fn leading_spaces(s: &[u8]) -> usize
+    ensures { λ r. ⌜ r ≡ leadingSpaces (now (s .entry)) ⌝ }
+{
+    let mut i = 0;
+    while i < s.len() {
+        if !is_space(s[i]) {
+            return i;
+        }
+        i += 1;
+    }
+    i
+}
+
+// How many bytes s has without the white space at its end.
+pub fn trim_end_len(s: &[u8]) -> usize
+    ensures { λ r. ⌜ r ≡ length (trimEnd (now (s .entry))) ⌝ }
+{
+    let mut i = s.len();
+    while 0 < i {
+        if !is_space(s[i - 1]) {
+            return i;
+        }
+        i -= 1;
+    }
+    i
+}
+
+// Where s stands without the white space at both ends.
+pub fn trim_span(s: &[u8]) -> Span
+    ensures { λ r. ⌜ r ≡ trimSpan (now (s .entry)) ⌝ }
+{
+    let start = leading_spaces(s);
+    let len = trim_end_len(&s[start..]);
+    Span { start, len }
+}
+
+pub fn trim(s: &[u8]) -> &[u8]
+    ensures { λ r. ⌜ now r ≡ trimmed (now (s .entry)) ⌝ }
+{
+    let start = leading_spaces(s);
+    let t = &s[start..];
+    let len = trim_end_len(t);
+    &t[..len]
+}
+
+// The bytes of a span, as far as s has them.
+pub fn span_bytes(s: &[u8], span: Span) -> &[u8]
+    ensures { λ r. ⌜ now r ≡ spanned (now (s .entry)) span ⌝ }
+{
+    let start = span.start;
+    let len = span.len;
+    if s.len() <= start {
+        return &s[..0];
+    }
+    let t = &s[start..];
+    if t.len() <= len {
+        return t;
+    }
+    &t[..len]
+}
+
+// The place of the first b, or the length where there is none.
+pub fn find(s: &[u8], b: u8) -> usize
+    ensures { λ r. ⌜ r ≡ indexOf b (now (s .entry)) ⌝ }
+{
+    let mut i = 0;
+    while i < s.len() {
+        if s[i] == b {
+            return i;
+        }
+        i += 1;
+    }
+    i
+}
+
+// The text before the first b.
+pub fn text_before(s: &[u8], b: u8) -> &[u8]
+    ensures { λ r. ⌜ now r ≡ before b (now (s .entry)) ⌝ }
+{
+    let end = find(s, b);
+    &s[..end]
+}
+
+// A line without its comment: cut at the first `;`, then at the first `#`.
+pub fn cut_comment(line: &[u8]) -> &[u8]
+    ensures { λ r. ⌜ now r ≡ uncommented (now (line .entry)) ⌝ }
+{
+    let t = text_before(line, b';');
+    text_before(t, b'#')
+}
+
+// Where a line's statement stands: the line without its comment, trimmed.
+pub fn statement_span(line: &[u8]) -> Span
+    ensures { λ r. ⌜ r ≡ statementSpan (now (line .entry)) ⌝ }
+{
+    trim_span(cut_comment(line))
+}
+
+pub fn starts_with(s: &[u8], prefix: &[u8]) -> bool
+    ensures { λ r. ⌜ r ≡ startsWith (now (prefix .entry)) (now (s .entry)) ⌝ }
+{
+    if s.len() < prefix.len() {
+        return false;
+    }
+    let mut i = 0;
+    while i < prefix.len() {
+        if s[i] != prefix[i] {
+            return false;
+        }
+        i += 1;
+    }
+    true
+}
+
+// Are the bytes of a and b equal? The lengths are compared first.
+pub fn same_bytes(a: &[u8], b: &[u8]) -> bool
+    ensures { λ r. ⌜ r ≡ same (now (a .entry)) (now (b .entry)) ⌝ }
+{
+    if a.len() != b.len() {
+        return false;
+    }
+    starts_with(a, b)
+}
+
+// What the byte at a place gives when each run of white space counts as one space.
+enum OneSpaced {
+    Byte(u8),
+    Nothing,
+}
+
+// A run's last byte gives the space, its other bytes nothing.
+fn one_spaced_at(s: &[u8], i: usize) -> OneSpaced
+    requires { ⌜ i < length (now s) ⌝ }
+    ensures { λ r. ⌜ oneSpacedByte r ≡ oneSpacedHead (drop i (now (s .entry))) ⌝ }
+{
+    let b = s[i];
+    if !is_space(b) {
+        return OneSpaced::Byte(b);
+    }
+    if s.len() <= i + 1 {
+        return OneSpaced::Byte(b' ');
+    }
+    if is_space(s[i + 1]) {
+        return OneSpaced::Nothing;
+    }
+    OneSpaced::Byte(b' ')
+}
+
+// Is an operand, with each run of white space as one space, the name as written?
+pub fn same_one_spaced(operand: &[u8], name: &[u8]) -> bool
+    ensures { λ r. ⌜ r ≡ same (oneSpaced (now (operand .entry))) (now (name .entry)) ⌝ }
+{
+    let mut i = 0;
+    let mut j = 0;
+    while i < operand.len() {
+        match one_spaced_at(operand, i) {
+            OneSpaced::Nothing => {
+                i += 1;
+            }
+            OneSpaced::Byte(b) => {
+                if name.len() <= j {
+                    return false;
+                }
+                if name[j] != b {
+                    return false;
+                }
+                i += 1;
+                j += 1;
+            }
+        }
+    }
+    j == name.len()
+}
