@@ -1,0 +1,5 @@
+pub mod Formats
+pub mod Table
+pub mod Encoding
+pub mod Split
+pub mod Run
