@@ -4,7 +4,9 @@
 //! module of its own.
 
 mod cases;
+mod encoder;
 mod falcon;
+mod gnu;
 mod numbers;
 mod random;
 
@@ -15,6 +17,7 @@ use std::{env, fs, io};
 use falcon::asm::assembler::assemble;
 
 const USAGE: &str = "usage: differential numbers DIR
+       differential encoder DIR
        differential assemble FILE...";
 
 fn main() -> ExitCode {
@@ -24,7 +27,10 @@ fn main() -> ExitCode {
         None => ("", &[][..]),
     };
     let done = match (name, rest) {
-        ("numbers", [directory]) => write_cases(Path::new(directory), &numbers::all_cases()),
+        ("numbers", [directory]) => write_cases(directory, &numbers::all_cases().text()),
+        ("encoder", [directory]) => {
+            encoder::all_cases().and_then(|text| write_cases(directory, &text))
+        }
         ("assemble", [_, ..]) => rest.iter().try_for_each(|file| assemble_file(file)),
         _ => Err(io::Error::new(io::ErrorKind::InvalidInput, USAGE)),
     };
@@ -38,9 +44,9 @@ fn main() -> ExitCode {
 }
 
 /// Writes the case list `DIR/cases`; the directory is made if it is missing.
-fn write_cases(directory: &Path, list: &cases::Cases) -> io::Result<()> {
+fn write_cases(directory: &str, text: &str) -> io::Result<()> {
     fs::create_dir_all(directory)?;
-    fs::write(directory.join("cases"), list.text())
+    fs::write(Path::new(directory).join("cases"), text)
 }
 
 /// Has the reference lay out one file at base 0 and prints what came of it.

@@ -1,9 +1,9 @@
 -- Signed numbers, so that `omega` can read them: z is the difference of two naturals, plusPart z - minusPart z, one of which is 0.
 -- Each law is linear and has no side condition.
 use Prim.Native.Nat.{ℕ, zero, suc, _+_, _-_, _^_, _≤_, _<_, min}
-use mathlib.Core.Path.{_≡_, refl, sym, _∙_, ap}
-use mathlib.Core.Bool.{Bool, true, false, cond, _&&_}
-use mathlib.Core.Option.{Option, none, some}
+use mathlib.Core.Path.{_≡_, refl, _∙_, ap}
+use mathlib.Core.Bool.{Bool, true, false, cond, true≢false, false≢true}
+use mathlib.Core.Option.{none, some}
 use native.Mathlib.Omega.{arith}
 use lib.Dec.{ltb}
 use lib.IntN.{ℤ, pos, negsuc, negℤ, subℕ, _+ℤ_, _-ℤ_}
@@ -58,19 +58,19 @@ equal-parts (negsuc a) (negsuc b) e = ap negsuc (omega arith)
 -- the machine's comparisons
 pub less : (a b : ℤ) → ltZ a b ≡ true → plusPart a + minusPart b < plusPart b + minusPart a
 less (pos a) (pos b) e = omega (arith, ltb-true a b e)
-less (pos a) (negsuc b) e = let z : _≡_ {A = ℕ} 0 1 = cc in omega arith
+less (pos a) (negsuc b) e = absurd (false≢true e)
 less (negsuc a) (pos b) e = omega arith
 less (negsuc a) (negsuc b) e = omega (arith, ltb-true b a e)
 
 pub not-less : (a b : ℤ) → ltZ a b ≡ false → plusPart b + minusPart a ≤ plusPart a + minusPart b
 not-less (pos a) (pos b) e = omega (arith, ltb-false a b e)
 not-less (pos a) (negsuc b) e = omega arith
-not-less (negsuc a) (pos b) e = let z : _≡_ {A = ℕ} 0 1 = cc in omega arith
+not-less (negsuc a) (pos b) e = absurd (true≢false e)
 not-less (negsuc a) (negsuc b) e = omega (arith, ltb-false b a e)
 
 at-most : (a b : ℤ) → leZ a b ≡ true → plusPart a + minusPart b ≤ plusPart b + minusPart a
 at-most (pos a) (pos b) e = omega (arith, leb-true a b e)
-at-most (pos a) (negsuc b) e = let z : _≡_ {A = ℕ} 0 1 = cc in omega arith
+at-most (pos a) (negsuc b) e = absurd (false≢true e)
 at-most (negsuc a) (pos b) e = omega arith
 at-most (negsuc a) (negsuc b) e = omega (arith, leb-true b a e)
 
@@ -93,12 +93,12 @@ unfolding fit64
 fit-some (pos n) f = rw (le-leb n 9223372036854775807 (omega arith)) refl
 fit-some (negsuc n) f = rw (le-leb n 9223372036854775807 (omega arith)) refl
 
-pub above-none : (z : ℤ) → 2 ^ 63 ≤ plusPart z → fit64 z ≡ none
+above-none : (z : ℤ) → 2 ^ 63 ≤ plusPart z → fit64 z ≡ none
 unfolding fit64
 above-none (pos n) h = rw (lt-leb n 9223372036854775807 (omega arith)) refl
 above-none (negsuc n) h = absurd (omega arith)
 
-pub below-none : (z : ℤ) → 2 ^ 63 < minusPart z → fit64 z ≡ none
+below-none : (z : ℤ) → 2 ^ 63 < minusPart z → fit64 z ≡ none
 unfolding fit64
 below-none (pos n) h = absurd (omega arith)
 below-none (negsuc n) h = rw (lt-leb n 9223372036854775807 (omega arith)) refl
@@ -154,7 +154,7 @@ neg-fits (negsuc n) f e = fits-width w64 (pos (suc n)) (omega (arith, e)) (omega
 -- a number that is not negative is its magnitude; of one that is, -1 - z is
 not-negative : (z : ℤ) → ltZ z (pos 0) ≡ false → z ≡ pos (mag z)
 not-negative (pos n) e = refl
-not-negative (negsuc n) e = absurd (let z : _≡_ {A = ℕ} 0 1 = cc in omega arith)
+not-negative (negsuc n) e = absurd (true≢false e)
 
 flipped : (z : ℤ) → ltZ z (pos 0) ≡ true → negsuc 0 -ℤ z ≡ pos (mag z)
 flipped (pos n) e = absurd (omega (arith, ltb-true n 0 e))
@@ -166,7 +166,7 @@ module _ (w : Width) (z : ℤ) (f : SFits w z) where
   read-back : toZ w (ofZ w z) ≡ z
   read-back = toZ-ofZ f
 
-  pub minus-made : ltZ (toZ w (ofZ w z)) (pos 0) ≡ true → negsuc 0 -ℤ toZ w (ofZ w z) ≡ pos (mag z)
+  minus-made : ltZ (toZ w (ofZ w z)) (pos 0) ≡ true → negsuc 0 -ℤ toZ w (ofZ w z) ≡ pos (mag z)
   minus-made e = rw read-back (flipped z (rw read-back at e))
 
   pub minus-fits : ltZ (toZ w (ofZ w z)) (pos 0) ≡ true → SFits w (negsuc 0 -ℤ toZ w (ofZ w z))
@@ -190,7 +190,7 @@ module _ (w : Width) (z : ℤ) (f : SFits w z) where
     where
       go : (z : ℤ) → ltZ z (pos 0) ≡ false → mag z ≡ bits k z
       go (pos n) h = refl
-      go (negsuc n) h = absurd (let z : _≡_ {A = ℕ} 0 1 = cc in omega arith)
+      go (negsuc n) h = absurd (true≢false h)
 
 -- -1 - (n - 1), as the code negates a magnitude
 module _ (n : ℕ) (h : n ≡ 0 → ⊥) where
@@ -219,4 +219,4 @@ upper-fits (pos n) e u =
     fits-width w32 (pos n -ℤ pos (2 ^ 32))
     (omega (arith, sub-parts (pos n) (pos (2 ^ 32)), one-zero (pos n -ℤ pos (2 ^ 32))))
     (omega (arith, sub-parts (pos n) (pos (2 ^ 32)), one-zero (pos n -ℤ pos (2 ^ 32))))
-upper-fits (negsuc n) e u = absurd (let z : _≡_ {A = ℕ} 0 1 = cc in omega arith)
+upper-fits (negsuc n) e u = absurd (false≢true u)

@@ -9,5 +9,6 @@ pub mod Values
 pub mod Quoted
 pub mod Names
 pub mod Readings
+pub mod SpacedNumbers
 pub mod NumberCases
 pub mod RegisterCases

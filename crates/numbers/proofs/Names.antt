@@ -2,7 +2,7 @@
 use Prim.Native.Nat.{ℕ, zero, suc, _+_, _-_, _*_, _^_, _≤_, _<_}
 use mathlib.Core.Path.{_≡_, refl, sym, _∙_, ap}
 use mathlib.Core.List.{List, [], _∷_, map}
-use mathlib.Core.Bool.{Bool, true, false, cond, _&&_, _||_}
+use mathlib.Core.Bool.{Bool, true, false, cond, _&&_, _||_, false≢true}
 use mathlib.Core.Option.{none, some}
 use native.Mathlib.Nat.{le-refl, le-of-suc-le-suc, not-suc-le-zero, pow-suc, sub-self, pow-le-pow-right}
 use native.Mathlib.Omega.{arith}
@@ -14,7 +14,7 @@ use borrow.Author.Tests.{ltb-true, leb-true, eqb-true, eqb-false, lt-ltb, le-ltb
 use Rattle.numbers.specs.Text.{text, trimmed, startsWith, same}
 use Rattle.numbers.specs.Numbers.{digitOf, allDigits, digitsFrom, digitsOf, signedDigits, prefixed, outerSigned, numberOf, literalOf, imm64Of}
 use Rattle.numbers.specs.Registers.{Named, abiNames, numberIn, lower, keyOf, xNumber, bareRegister, registerOf}
-use Rattle.numbers.proofs.Bools.{false-true, none-some, and-left, and-right, and-both}
+use Rattle.numbers.proofs.Bools.{none-some, and-left, and-right, and-both}
 use Rattle.numbers.proofs.Prefixes.{same-unlike, same-equal}
 use Rattle.numbers.proofs.Values.{digits-within}
 
@@ -83,7 +83,7 @@ low-byte k l x y hx hy = go (eqb x y) refl (eqb k l) refl
     go false e u f = ne-eqb (k * 256 + x) (l * 256 + y) (λ q. eqb-false x y e (omega (arith, q, hx, hy)))
 
 -- no two texts of bytes have the same key
-pub key-same : (a b : List ℕ) → bytes a ≡ true → bytes b ≡ true → eqb (keyOf a) (keyOf b) ≡ same a b
+key-same : (a b : List ℕ) → bytes a ≡ true → bytes b ≡ true → eqb (keyOf a) (keyOf b) ≡ same a b
 unfolding bytes keyOf same
 key-same [] [] p q = refl
 key-same [] (y ∷ ys) p q = ne-eqb 1 (keyOf ys * 256 + y) (λ e. omega (arith, e, key-positive ys))
@@ -189,13 +189,13 @@ found t n (x ∷ xs) f e = go (same (x .name) t) refl (found t n xs (others-fine
 -- a text that begins with an x begins with a letter
 x-letter : (t : List ℕ) → startsWith (text "x") t || startsWith (text "X") t ≡ true → 65 ≤ getD t 0 0
 unfolding startsWith
-x-letter [] e = absurd (false-true e)
+x-letter [] e = absurd (false≢true e)
 x-letter (y ∷ ys) e = go (eqb y 120) refl (eqb y 88) refl e
   where
     go : (a : Bool) → eqb y 120 ≡ a → (b : Bool) → eqb y 88 ≡ b → (a && true) || (b && true) ≡ true → 65 ≤ y
     go true k b l q = omega (arith, eqb-true y 120 k)
     go false k true l q = omega (arith, eqb-true y 88 l)
-    go false k false l q = absurd (false-true q)
+    go false k false l q = absurd (false≢true q)
 
 -- a text that begins with a small letter in lower case begins with a letter
 lower-letter : (t : List ℕ) → 97 ≤ getD (map lower t) 0 0 → 65 ≤ getD t 0 0

@@ -3,58 +3,22 @@ use Prim.Native.Nat.{ℕ, suc, _+_, _-_, _≤_, _<_}
 use native.Mathlib.Nat.{not-suc-le-zero}
 use mathlib.Core.Path.{_≡_, refl, sym, _∙_, ap}
 use mathlib.Core.List.{List, [], _∷_, map}
-use mathlib.Core.Bool.{Bool, true, false, cond, _||_}
+use mathlib.Core.Bool.{Bool, true, false, cond, _||_, true≢false}
 use mathlib.Core.Option.{none, some}
-use native.Mathlib.Numerals.{add-one}
 use native.Mathlib.Omega.{arith}
 use lib.Dec.{leb, eqb, leb·zero, leb·suc-suc}
-use lib.ListN.{length, take, drop, getD, drop-of-length-le, length-drop}
-use lib.Seq.{drop-cons, drop-drop}
+use lib.ListN.{length, take, drop, drop-of-length-le, length-drop}
+use lib.Seq.{drop-drop}
 use borrow.Author.Tests.{le-leb, lt-leb, leb-true, leb-false, eqb-true}
 use Rattle.numbers.specs.declared.text.Span.{Span}
 use Rattle.numbers.specs.declared.operands.Operand.the-variants.{At, End}
-use Rattle.numbers.specs.Text.{byte, isSpace, leadingSpaces, trimStart, consTrimmed, trimEnd, trimmed, spanned, trimSpan, indexOf, before}
+use Rattle.numbers.specs.Text.{byte, isSpace, leading, leadingSpaces, trimStart, consTrimmed, trimEnd, trimmed, spanned, trimSpan, indexOf, before}
 use Rattle.numbers.specs.Text.{spaceFirst, consSome, oneSpaced}
-use Rattle.numbers.specs.Operands.{consFirst, commaParts, operands, nonEmpty, itemOperands, operandsFrom, itemOperandsFrom, operandAt, leadingBlanks, itemOperandHere, itemOperandAt}
-use Rattle.numbers.proofs.Bools.{or-left, or-right}
+use Rattle.numbers.specs.Operands.{consFirst, commaParts, operands, nonEmpty, itemOperands, operandsFrom, itemOperandsFrom, operandAt, isBlank, leadingBlanks, itemOperandHere, itemOperandAt}
+use Rattle.numbers.proofs.Bools.{or-left, or-right, or-none}
 use Rattle.numbers.proofs.Trims.{trim-span-within, trim-end-within, span-later, front-text, front-end, start-stays}
 use Rattle.numbers.proofs.Spaced.{spaced-some, trimmed-spaced}
-use Rattle.numbers.proofs.Places.{index-within, index-found, before-length}
-
--- white space or a comma
-abbrev pub isBlank : ℕ → Bool
-isBlank b = isSpace b || eqb b (byte ",")
-
--- a test of two, of which the second fails
-or-none : (a : Bool) → (a || false) ≡ true → a ≡ true
-or-none true e = e
-or-none false e = e
-
-module _ (s : List ℕ) (i : ℕ) where
-  -- white space or a comma at i: one more than from the next place on
-  pub blank-more : i < length s → isBlank (getD s i 0) ≡ true → leadingBlanks (drop i s) ≡ suc (leadingBlanks (drop (i + 1) s))
-  unfolding leadingBlanks
-  blank-more h e = rw (add-one i, drop-cons s i 0 h, e) refl
-
-  -- another byte at i: none
-  pub blank-stop : i < length s → isBlank (getD s i 0) ≡ false → leadingBlanks (drop i s) ≡ 0
-  unfolding leadingBlanks
-  blank-stop h e = rw (drop-cons s i 0 h, e) refl
-
-  -- none past the end
-  pub blank-end : length s ≤ i → leadingBlanks (drop i s) ≡ 0
-  unfolding leadingBlanks
-  blank-end h = rw (drop-of-length-le s h) refl
-
--- the white space and commas at the start lie within the text
-pub blanks-within : (s : List ℕ) → leadingBlanks s ≤ length s
-unfolding leadingBlanks
-blanks-within [] = omega arith
-blanks-within (x ∷ xs) = go (isBlank x) (blanks-within xs)
-  where
-    go : (t : Bool) → leadingBlanks xs ≤ length xs → cond t (suc (leadingBlanks xs)) 0 ≤ suc (length xs)
-    go true h = omega arith
-    go false h = omega arith
+use Rattle.numbers.proofs.Places.{index-within, before-length}
 
 -- past the end there is no operand
 pub item-past : (s : List ℕ) (at : ℕ) → length s < at → itemOperandAt s at ≡ End
@@ -116,6 +80,10 @@ parts-from s at h =
     )
     refl
 
+-- the end is no operand
+end-at : {p : Span} {next : ℕ} → End ≡ At p next → ⊥
+end-at e = let z : _≡_ {A = ℕ} 0 1 = cc in omega arith
+
 -- what an operand found says
 part-found : (s : List ℕ) (at : ℕ) (p : Span) (next : ℕ) → operandAt s at ≡ At p next → (at ≤ length s) × (partSpan s at ≡ p) × (partNext s at ≡ next)
 unfolding operandAt
@@ -123,7 +91,7 @@ part-found s at p next e = go (leb at (length s)) refl e
   where
     go : (b : Bool) → leb at (length s) ≡ b → cond b (At (partSpan s at) (partNext s at)) End ≡ At p next → (at ≤ length s) × (partSpan s at ≡ p) × (partNext s at ≡ next)
     go true h k = (leb-true at (length s) h, cc, cc)
-    go false h k = absurd (let z : _≡_ {A = ℕ} 0 1 = cc in omega arith)
+    go false h k = absurd (end-at k)
 
 -- an operand found is the first from that place on, and the others come from the next place on
 pub operand-step : (s : List ℕ) (at : ℕ) (p : Span) (next : ℕ) → operandAt s at ≡ At p next → operandsFrom s at ≡ spanned s p ∷ operandsFrom s next
@@ -137,7 +105,7 @@ unfolding operandAt operandsFrom
 operand-end s at e = go (leb at (length s)) e
   where
     go : (b : Bool) → cond b (At (partSpan s at) (partNext s at)) End ≡ End → cond b (operands (drop at s)) [] ≡ []
-    go true k = absurd (let z : _≡_ {A = ℕ} 0 1 = cc in omega arith)
+    go true k = absurd (end-at (sym k))
     go false k = refl
 
 -- from the start on there are all
@@ -173,7 +141,7 @@ skip-blank x xs e = go (eqb x (byte ",")) e
 
 -- nor do all the white space and commas at its start
 skip-blanks : (t : List ℕ) → itemOperands (drop (leadingBlanks t) t) ≡ itemOperands t
-unfolding leadingBlanks
+unfolding leading
 skip-blanks [] = refl
 skip-blanks (x ∷ xs) = go (isBlank x) refl (skip-blanks xs)
   where
@@ -184,7 +152,7 @@ skip-blanks (x ∷ xs) = go (isBlank x) refl (skip-blanks xs)
 
 -- after them stands neither white space nor a comma
 blanks-stop : (t : List ℕ) → leadingBlanks (drop (leadingBlanks t) t) ≡ 0
-unfolding leadingBlanks
+unfolding leading
 blanks-stop [] = refl
 blanks-stop (x ∷ xs) = go (isBlank x) refl (blanks-stop xs)
   where
@@ -194,7 +162,7 @@ blanks-stop (x ∷ xs) = go (isBlank x) refl (blanks-stop xs)
 
 -- a text with no blanks at its start begins with another byte
 no-blank : (x : ℕ) (xs : List ℕ) → leadingBlanks (x ∷ xs) ≡ 0 → isBlank x ≡ false
-unfolding leadingBlanks
+unfolding leading
 no-blank x xs e = go (isBlank x) e
   where
     go : (b : Bool) → cond b (suc (leadingBlanks xs)) 0 ≡ 0 → b ≡ false
@@ -234,28 +202,6 @@ unfolding nonEmpty
 keep-some [] ps h = absurd (not-suc-le-zero h)
 keep-some (x ∷ xs) ps h = refl
 
--- the parts after the comma, trimmed and without the empty ones, are the item operands from the comma on
-items-after : (t : List ℕ)
-    → nonEmpty (map trimmed (cond (leb (suc (indexOf (byte ",") t)) (length t)) (commaParts (drop (suc (indexOf (byte ",") t)) t)) [])) ≡ itemOperands (drop (indexOf (byte ",") t) t)
-unfolding itemOperands operands nonEmpty trimmed trimStart trimEnd commaParts
-items-after t = go (leb (suc i) (length t)) refl
-  where
-    i : ℕ
-    i = indexOf (byte ",") t
-
-    go : (b : Bool) → leb (suc i) (length t) ≡ b → nonEmpty (map trimmed (cond b (commaParts (drop (suc i) t)) [])) ≡ itemOperands (drop i t)
-    go true e =
-        let h : i < length t = leb-true (suc i) (length t) e in
-        rw (drop-cons t i 0 h, index-found (byte ",") t h) refl
-    go false e =
-        let h : length t ≤ i = omega (arith, leb-false (suc i) (length t) e) in
-        rw (drop-of-length-le t h) refl
-
--- the item operands of a text that begins with neither white space nor a comma: its first part, then those from the comma on
-items-here : (t : List ℕ) → 0 < length t → leadingBlanks t ≡ 0 → itemOperands t ≡ trimEnd (before (byte ",") t) ∷ itemOperands (drop (indexOf (byte ",") t) t)
-unfolding itemOperands operands
-items-here t h e = rw (parts-step t, here-trimmed t e, keep-some (trimEnd (before (byte ",") t)) _ (here-some t h e), items-after t) refl
-
 -- from any place on: past the end there are none
 items-from : (s : List ℕ) (at : ℕ) → itemOperandsFrom s at ≡ itemOperands (drop at s)
 unfolding itemOperandsFrom operandsFrom itemOperands operands commaParts nonEmpty trimmed trimStart trimEnd
@@ -267,6 +213,19 @@ items-from s at = go (leb at (length s)) refl
         let h : length s ≤ at = omega (arith, leb-false at (length s) e) in
         rw (drop-of-length-le s h) refl
 
+-- the parts after the comma, trimmed and without the empty ones, are the item operands after the comma
+items-after : (t : List ℕ)
+    → nonEmpty (map trimmed (cond (leb (suc (indexOf (byte ",") t)) (length t)) (commaParts (drop (suc (indexOf (byte ",") t)) t)) [])) ≡ itemOperands (drop (suc (indexOf (byte ",") t)) t)
+unfolding itemOperandsFrom operandsFrom operands
+items-after t =
+    let next : ℕ = suc (indexOf (byte ",") t) in
+    ap nonEmpty (map-cond (leb next (length t)) (commaParts (drop next t))) ∙ items-from t next
+
+-- the item operands of a text that begins with neither white space nor a comma: its first part, then those after its comma
+items-here : (t : List ℕ) → 0 < length t → leadingBlanks t ≡ 0 → itemOperands t ≡ trimEnd (before (byte ",") t) ∷ itemOperands (drop (suc (indexOf (byte ",") t)) t)
+unfolding itemOperands operands
+items-here t h e = rw (parts-step t, here-trimmed t e, keep-some (trimEnd (before (byte ",") t)) _ (here-some t h e), items-after t) refl
+
 -- the place of the first item operand from a place on
 abbrev itemStart : List ℕ → ℕ → ℕ
 itemStart s at = at + leadingBlanks (drop at s)
@@ -275,21 +234,17 @@ itemStart s at = at + leadingBlanks (drop at s)
 abbrev itemSpan : List ℕ → ℕ → Span
 itemSpan s i = record { start = i; len = length (trimEnd (before (byte ",") (drop i s))) }
 
--- the place of its comma
-abbrev itemNext : List ℕ → ℕ → ℕ
-itemNext s i = i + indexOf (byte ",") (drop i s)
-
 -- what an item operand found says
 item-found : (s : List ℕ) (at : ℕ) (p : Span) (next : ℕ) → itemOperandAt s at ≡ At p next
-    → (itemStart s at < length s) × (itemSpan s (itemStart s at) ≡ p) × (itemNext s (itemStart s at) ≡ next)
+    → (itemStart s at < length s) × (itemSpan s (itemStart s at) ≡ p) × (partNext s (itemStart s at) ≡ next)
 unfolding itemOperandAt itemOperandHere
 item-found s at p next e = go (leb (length s) i) refl e
   where
     i : ℕ
     i = itemStart s at
 
-    go : (b : Bool) → leb (length s) i ≡ b → cond b End (At (itemSpan s i) (itemNext s i)) ≡ At p next → (i < length s) × (itemSpan s i ≡ p) × (itemNext s i ≡ next)
-    go true h k = absurd (let z : _≡_ {A = ℕ} 0 1 = cc in omega arith)
+    go : (b : Bool) → leb (length s) i ≡ b → cond b End (At (itemSpan s i) (partNext s i)) ≡ At p next → (i < length s) × (itemSpan s i ≡ p) × (partNext s i ≡ next)
+    go true h k = absurd (end-at k)
     go false h k = (leb-false (length s) i h, cc, cc)
 
 -- the item operands from a place on are those from the first operand's place on
@@ -313,9 +268,10 @@ item-step s at p next e =
     let f = item-found s at p next e in
     let i : ℕ = itemStart s at in
     let n : ℕ = indexOf (byte ",") (drop i s) in
+    let next-place : i + suc n ≡ suc (i + n) = omega arith in
     items-skip s at
     ∙ items-here (drop i s) (start-some s at (f .0)) (start-stops s at (f .0))
-    ∙ rw (← f .1, ← f .2, front-end n (drop i s), items-from s (i + n), drop-drop n i s) refl
+    ∙ rw (← f .1, ← f .2, front-end n (drop i s), items-from s (suc (i + n)), drop-drop (suc n) i s, next-place) refl
 
 -- at the end there are no more
 pub item-end : (s : List ℕ) (at : ℕ) → itemOperandAt s at ≡ End → itemOperandsFrom s at ≡ []
@@ -325,16 +281,16 @@ item-end s at e = rw (items-skip s at) (go (leb (length s) (itemStart s at)) ref
     i : ℕ
     i = itemStart s at
 
-    go : (b : Bool) → leb (length s) i ≡ b → cond b End (At (itemSpan s i) (itemNext s i)) ≡ End → itemOperands (drop i s) ≡ []
+    go : (b : Bool) → leb (length s) i ≡ b → cond b End (At (itemSpan s i) (partNext s i)) ≡ End → itemOperands (drop i s) ≡ []
     go true h k = rw (drop-of-length-le s (leb-true (length s) i h)) refl
-    go false h k = absurd (let z : _≡_ {A = ℕ} 0 1 = cc in omega arith)
+    go false h k = absurd (end-at (sym k))
 
 -- from the start on there are all
 pub items-all : (s : List ℕ) → itemOperandsFrom s 0 ≡ itemOperands s
 items-all s = items-from s 0
 
--- an item operand found is not empty and lies within the text, as the next place does, which is further on
-pub item-bounds : (s : List ℕ) (at : ℕ) (p : Span) (next : ℕ) → itemOperandAt s at ≡ At p next → (0 < p .len) × (p .start + p .len ≤ length s) × (next ≤ length s) × (at < next)
+-- an item operand found is not empty and lies within the text, and the next place is further on and at most one past the end
+pub item-bounds : (s : List ℕ) (at : ℕ) (p : Span) (next : ℕ) → itemOperandAt s at ≡ At p next → (0 < p .len) × (p .start + p .len ≤ length s) × (next ≤ length s + 1) × (at < next)
 item-bounds s at p next e =
     let f = item-found s at p next e in
     let i : ℕ = itemStart s at in
@@ -367,7 +323,7 @@ parts-spaced (x ∷ xs) = go (eqb x (byte ",")) refl (isSpace x) refl (spaceFirs
 
     go : (c : Bool) → eqb x (byte ",") ≡ c → (a : Bool) → isSpace x ≡ a → (b : Bool) → spaceFirst q ≡ b → commaParts (oneSpaced xs) ≡ map oneSpaced (commaParts xs)
         → commaParts (consSome (cond a (cond b none (some 32)) (some x)) (oneSpaced xs)) ≡ map oneSpaced (cond c ([] ∷ commaParts xs) (consFirst x (commaParts xs)))
-    go true f true e b g h = absurd (let z : true ≡ false = sym e ∙ rw (eqb-true x (byte ",") f) refl in let o : _≡_ {A = ℕ} 0 1 = cc in omega arith)
+    go true f true e b g h = absurd (true≢false (sym e ∙ rw (eqb-true x (byte ",") f) refl))
     go true f false e b g h = rw (f, h) refl
     go false f true e true g h = rw (h, parts-step xs, e, g) refl
     go false f true e false g h = rw (h, parts-step xs, e, g) refl

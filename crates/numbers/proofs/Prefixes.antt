@@ -1,8 +1,8 @@
 -- Texts that begin with another, and equal texts.
 use Prim.Native.Nat.{ℕ, suc, _+_, _≤_, _<_}
-use mathlib.Core.Path.{_≡_, refl, ap}
+use mathlib.Core.Path.{_∙_, _≡_, ap, refl, sym}
 use mathlib.Core.List.{List, [], _∷_, _++_}
-use mathlib.Core.Bool.{Bool, true, false, _&&_, _||_}
+use mathlib.Core.Bool.{Bool, true, false, _||_, false≢true, and-false, and-true}
 use native.Mathlib.Nat.{le-of-suc-le-suc}
 use native.Mathlib.Numerals.{add-one}
 use native.Mathlib.Omega.{arith}
@@ -11,7 +11,7 @@ use lib.ListN.{length, drop, getD, drop-of-length-le}
 use lib.Seq.{drop-cons}
 use borrow.Author.Tests.{eq-eqb, ne-eqb, eqb-true}
 use Rattle.numbers.specs.Text.{startsWith, same}
-use Rattle.numbers.proofs.Bools.{false-true, and-false, and-left, and-right}
+use Rattle.numbers.proofs.Bools.{and-left, and-right}
 
 -- a text shorter than p does not begin with it
 pub short : (p s : List ℕ) → length s < length p → startsWith p s ≡ false
@@ -40,7 +40,7 @@ prefix-end p s i h = rw (drop-of-length-le p h) refl
 pub prefix-length : (p s : List ℕ) → startsWith p s ≡ true → length p ≤ length s
 unfolding startsWith
 prefix-length [] s e = omega arith
-prefix-length (y ∷ p) [] e = absurd (false-true e)
+prefix-length (y ∷ p) [] e = absurd (false≢true e)
 prefix-length (y ∷ p) (x ∷ s) e = omega (arith, prefix-length p s (and-right (eqb x y) (startsWith p s) e))
 
 -- texts of unlike lengths are not the same
@@ -63,15 +63,15 @@ same-prefix (x ∷ a) (y ∷ b) h = rw (same-prefix a b (omega arith)) refl
 pub prefix-splits : (p s : List ℕ) → startsWith p s ≡ true → s ≡ p ++ drop (length p) s
 unfolding startsWith
 prefix-splits [] s e = refl
-prefix-splits (y ∷ p) [] e = absurd (false-true e)
+prefix-splits (y ∷ p) [] e = absurd (false≢true e)
 prefix-splits (y ∷ p) (x ∷ s) e = cc (eqb-true x y (and-left (eqb x y) (startsWith p s) e), prefix-splits p s (and-right (eqb x y) (startsWith p s) e))
 
 -- the same texts are equal
 pub same-equal : (a b : List ℕ) → same a b ≡ true → a ≡ b
 unfolding same
 same-equal [] [] e = refl
-same-equal [] (y ∷ b) e = absurd (false-true e)
-same-equal (x ∷ a) [] e = absurd (false-true e)
+same-equal [] (y ∷ b) e = absurd (false≢true e)
+same-equal (x ∷ a) [] e = absurd (false≢true e)
 same-equal (x ∷ a) (y ∷ b) e = cc (eqb-true x y (and-left (eqb x y) (same a b) e), same-equal a b (and-right (eqb x y) (same a b) e))
 
 -- a text is the same as itself
@@ -91,3 +91,15 @@ either-length p q s h e = go (startsWith p s) refl e
     go : (t : Bool) → startsWith p s ≡ t → t || startsWith q s ≡ true → length p ≤ length s
     go true k r = prefix-length p s k
     go false k r = rw h (prefix-length q s r)
+
+-- one byte as the prefix: the first byte
+pub first-byte : (b : ℕ) (s : List ℕ) → (length s ≡ 0 → ⊥) → startsWith (b ∷ []) s ≡ eqb (getD s 0 0) b
+unfolding startsWith
+first-byte b [] h = absurd (h refl)
+first-byte b (x ∷ xs) h = and-true (eqb x b)
+
+-- without its first byte a longer prefix is not there
+pub longer-prefix : (b : ℕ) (p s : List ℕ) → startsWith (b ∷ []) s ≡ false → startsWith (b ∷ p) s ≡ false
+unfolding startsWith
+longer-prefix b p [] e = refl
+longer-prefix b p (x ∷ xs) e = rw (sym (and-true (eqb x b)) ∙ e) refl

@@ -2,7 +2,7 @@
 use Prim.Native.Nat.{ℕ, _+_, _-_, _≤_, _<_}
 use mathlib.Core.Path.{_≡_, refl, _∙_, ap, subst}
 use mathlib.Core.List.{List}
-use mathlib.Core.Bool.{Bool, true, false, cond, _&&_}
+use mathlib.Core.Bool.{Bool, true, false, cond, _&&_, false≢true}
 use mathlib.Core.Option.{Option, none, some}
 use native.Mathlib.Omega.{arith}
 use lib.IntN.{ℤ, pos, negsuc}
@@ -12,16 +12,17 @@ use borrow.Author.Tests.{leb-true}
 use Rattle.numbers.specs.declared.text.Span.{Span}
 use Rattle.numbers.specs.Text.{leadingSpaces, trimEnd, trimmed, spanned, trimSpan}
 use Rattle.numbers.specs.Literals.{escaped, plainChar, charLitOf, isString, unquoted, strLitOf}
+use Rattle.numbers.proofs.Bools.{none-some}
 use Rattle.numbers.proofs.Trims.{take-trim-end, trim-steps, trim-span-text, trim-span-within, span-later, span-front}
 
 -- a string has two bytes at least
-pub string-two : (t : List ℕ) → isString t ≡ true → 2 ≤ length t
+string-two : (t : List ℕ) → isString t ≡ true → 2 ≤ length t
 unfolding isString
 string-two t e = go (leb 2 (length t)) refl (eqb (getD t 0 0) 34) (eqb (getD t (length t - 1) 0) 34) e
   where
     go : (a : Bool) → leb 2 (length t) ≡ a → (b c : Bool) → a && b && c ≡ true → 2 ≤ length t
     go true h b c q = leb-true 2 (length t) h
-    go false h b c q = absurd (let z : _≡_ {A = ℕ} 0 1 = cc in omega arith)
+    go false h b c q = absurd (false≢true q)
 
 -- the text's trimmed bytes, len from start on, are a string
 abbrev pub StringAt : List ℕ → ℕ → ℕ → Type 0
@@ -57,7 +58,7 @@ module _ (s : List ℕ) (p : Span) (e : strLitOf s ≡ some p) where
       go : (b : Bool) → isString (trimmed s) ≡ b → cond b (some (record { start = leadingSpaces s + 1; len = length (trimmed s) - 2 })) none ≡ some p
           → (2 ≤ length (trimmed s)) × (p ≡ record { start = leadingSpaces s + 1; len = length (trimmed s) - 2 })
       go true k q = (string-two (trimmed s) k, cc)
-      go false k q = absurd (let z : _≡_ {A = ℕ} 0 1 = cc in omega arith)
+      go false k q = absurd (none-some q)
 
   -- a string's span lies within the text
   pub str-lit-within : p .start + p .len ≤ length s

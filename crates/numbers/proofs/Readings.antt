@@ -20,10 +20,6 @@ use Rattle.numbers.proofs.Integers.{fits-signed32, upper-fits}
 use Rattle.numbers.proofs.Values.{digits-within}
 use Rattle.numbers.proofs.Quoted.{char-below}
 
--- nothing is no integer
-none-value : {z : ℤ} → none ≡ some z → ⊥
-none-value e = let z : _≡_ {A = ℕ} 0 1 = cc in omega arith
-
 -- a magnitude within 64 signed bits, with and without a minus
 pos-in64 : (n : ℕ) → n ≤ 2 ^ 63 - 1 → in64 (pos n) ≡ true
 pos-in64 n h = le-leb n 9223372036854775807 h
@@ -33,11 +29,11 @@ neg-in64 zero h = refl
 neg-in64 (suc n) h = rw (le-leb n 9223372036854775807 (omega arith)) refl
 
 plus-in64 : (o : Option ℕ) (z : ℤ) → ((n : ℕ) → o ≡ some n → n ≤ 2 ^ 63 - 1) → plus o ≡ some z → in64 z ≡ true
-plus-in64 none z h e = absurd (none-value e)
+plus-in64 none z h e = absurd (none-some e)
 plus-in64 (some n) z h e = let k : pos n ≡ z = cc in rw (← k) (pos-in64 n (h n refl))
 
 minus-in64 : (o : Option ℕ) (z : ℤ) → ((n : ℕ) → o ≡ some n → n ≤ 2 ^ 63) → minus o ≡ some z → in64 z ≡ true
-minus-in64 none z h e = absurd (none-value e)
+minus-in64 none z h e = absurd (none-some e)
 minus-in64 (some n) z h e = let k : negℤ (pos n) ≡ z = cc in rw (← k) (neg-in64 n (h n refl))
 
 signed-in64 : (base : ℕ) (s : List ℕ) (z : ℤ) → signedDigits base s ≡ some z → in64 z ≡ true
@@ -67,10 +63,10 @@ fit-in64 y z e = go (in64 y) refl e
   where
     go : (t : Bool) → in64 y ≡ t → cond t (some y) none ≡ some z → in64 z ≡ true
     go true h q = let k : y ≡ z = cc in rw (← k) h
-    go false h q = absurd (none-value q)
+    go false h q = absurd (none-some q)
 
 negated-in64 : (o : Option ℤ) (z : ℤ) → negated o ≡ some z → in64 z ≡ true
-negated-in64 none z e = absurd (none-value e)
+negated-in64 none z e = absurd (none-some e)
 negated-in64 (some y) z e = fit-in64 (negℤ y) z e
 
 outer-in64 : (s : List ℕ) (z : ℤ) → outerSigned s ≡ some z → in64 z ≡ true
@@ -107,10 +103,10 @@ imm-in32 s z e = go (imm64Of s) refl e
     by y false true r a b q =
         let k : y -ℤ pos (2 ^ 32) ≡ z = cc in
         (rw (← k) (fits-signed32 (y -ℤ pos (2 ^ 32)) (upper-fits y a b)), inr (rw (← k, -ℤ-+ℤ-cancel y (pos (2 ^ 32))) r))
-    by y false false r a b q = absurd (none-value q)
+    by y false false r a b q = absurd (none-some q)
 
     go : (o : Option ℤ) → imm64Of s ≡ o → narrowed o ≡ some z → (isSigned32 z ≡ true) × ((imm64Of s ≡ some z) ⊎ (imm64Of s ≡ some (z +ℤ pos (2 ^ 32))))
-    go none r q = absurd (none-value q)
+    go none r q = absurd (none-some q)
     go (some y) r q = by y (isSigned32 y) (isUnsigned32 y) r refl refl q
 
 -- without a quote the two readings of one text are one

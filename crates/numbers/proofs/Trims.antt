@@ -9,33 +9,29 @@ use native.Mathlib.Numerals.{add-one, sub-one}
 use lib.ListN.{length, drop, take, getD, drop-of-length-le, length-drop, length-take, take-append-drop}
 use lib.Seq.{take-take, drop-cons, drop-drop, take-suc, take-all, take-nil, length-take-le, take-append-le, drop-append-le}
 use Rattle.numbers.specs.declared.text.Span.{Span}
-use Rattle.numbers.specs.Text.{byte, isSpace, leadingSpaces, trimStart, consTrimmed, trimEnd, trimmed, spanned, trimSpan}
+use Rattle.numbers.specs.Text.{byte, isSpace, leading, leadingSpaces, trimStart, consTrimmed, trimEnd, trimmed, spanned, trimSpan}
 use Rattle.numbers.specs.Text.{indexOf, before, uncommented, statementSpan, spaceFirst}
 
 -- the code's `&s[a..]` is the text from a on
 pub tail : (s : List ℕ) (a : ℕ) → take (length s - a) (drop a s) ≡ drop a s
 tail s a = take-all (length s - a) (drop a s) (le-of-eq (length-drop a s))
 
--- a text of no bytes
-pub no-bytes : (s : List ℕ) → length s ≡ 0 → s ≡ []
-no-bytes [] h = refl
-no-bytes (x ∷ xs) h = absurd (omega arith)
+-- how many bytes meet a test, from a place on
+module _ (test : ℕ → Bool) (s : List ℕ) (i : ℕ) where
+  -- the byte at i does: one more than from the next place on
+  pub leading-more : i < length s → test (getD s i 0) ≡ true → leading test (drop i s) ≡ suc (leading test (drop (i + 1) s))
+  unfolding leading
+  leading-more h e = rw (add-one i, drop-cons s i 0 h, e) refl
 
-module _ (s : List ℕ) (i : ℕ) where
-  -- a space at i: one more than from the next place on
-  pub space-more : i < length s → isSpace (getD s i 0) ≡ true → leadingSpaces (drop i s) ≡ suc (leadingSpaces (drop (i + 1) s))
-  unfolding leadingSpaces
-  space-more h e = rw (add-one i, drop-cons s i 0 h, e) refl
-
-  -- another byte at i: none
-  pub space-stop : i < length s → isSpace (getD s i 0) ≡ false → leadingSpaces (drop i s) ≡ 0
-  unfolding leadingSpaces
-  space-stop h e = rw (drop-cons s i 0 h, e) refl
+  -- it does not: none
+  pub leading-stop : i < length s → test (getD s i 0) ≡ false → leading test (drop i s) ≡ 0
+  unfolding leading
+  leading-stop h e = rw (drop-cons s i 0 h, e) refl
 
   -- none past the end
-  pub space-end : length s ≤ i → leadingSpaces (drop i s) ≡ 0
-  unfolding leadingSpaces
-  space-end h = rw (drop-of-length-le s h) refl
+  pub leading-end : length s ≤ i → leading test (drop i s) ≡ 0
+  unfolding leading
+  leading-end h = rw (drop-of-length-le s h) refl
 
 -- a space at the end is trimmed
 snoc-space : (xs : List ℕ) (x : ℕ) → isSpace x ≡ true → trimEnd (xs ++ (x ∷ [])) ≡ trimEnd xs
@@ -76,8 +72,8 @@ end-none s zero h = refl
 end-none s (suc j) h = absurd (not-suc-le-zero h)
 
 -- what stands after the white space at the start is the text trimmed at its start
-pub drop-leading : (s : List ℕ) → drop (leadingSpaces s) s ≡ trimStart s
-unfolding leadingSpaces trimStart
+drop-leading : (s : List ℕ) → drop (leadingSpaces s) s ≡ trimStart s
+unfolding leading trimStart
 drop-leading [] = refl
 drop-leading (x ∷ xs) = go (isSpace x) (drop-leading xs)
   where
@@ -85,13 +81,13 @@ drop-leading (x ∷ xs) = go (isSpace x) (drop-leading xs)
     go true h = h
     go false h = refl
 
--- the white space at the start lies within the text
-pub leading-within : (s : List ℕ) → leadingSpaces s ≤ length s
-unfolding leadingSpaces
-leading-within [] = omega arith
-leading-within (x ∷ xs) = go (isSpace x) (leading-within xs)
+-- the bytes at the start that meet a test lie within the text
+pub leading-within : (test : ℕ → Bool) (s : List ℕ) → leading test s ≤ length s
+unfolding leading
+leading-within test [] = omega arith
+leading-within test (x ∷ xs) = go (test x) (leading-within test xs)
   where
-    go : (t : Bool) → leadingSpaces xs ≤ length xs → cond t (suc (leadingSpaces xs)) 0 ≤ suc (length xs)
+    go : (t : Bool) → leading test xs ≤ length xs → cond t (suc (leading test xs)) 0 ≤ suc (length xs)
     go true h = omega arith
     go false h = omega arith
 
@@ -121,7 +117,7 @@ trim-span-text s = rw (drop-leading s) (take-trim-end (trimStart s))
 -- the trimmed text lies within the text
 pub trim-span-within : (s : List ℕ) → leadingSpaces s + length (trimmed s) ≤ length s
 unfolding trimmed
-trim-span-within s = omega (arith, leading-within s, trim-end-within (trimStart s), ap length (drop-leading s), length-drop (leadingSpaces s) s)
+trim-span-within s = omega (arith, leading-within isSpace s, trim-end-within (trimStart s), ap length (drop-leading s), length-drop (leadingSpaces s) s)
 
 -- the code's two steps of trimming: at the start, then at the end of what is left
 pub trim-steps : (s : List ℕ) (n : ℕ) → n ≡ leadingSpaces s → trimEnd (take (length s - n) (drop n s)) ≡ trimmed s
@@ -141,7 +137,7 @@ span-rest s p h = take-all (p .len) (drop (p .start) s) h
 -- the trimmed text begins within the text
 pub span-start : (s : List ℕ) (p : Span) → p ≡ trimSpan s → p .start ≤ length s
 unfolding trimSpan
-span-start s p e = rw e (leading-within s)
+span-start s p e = rw e (leading-within isSpace s)
 
 -- of a text that is long enough a span has its length
 pub spanned-length : (s : List ℕ) (p : Span) → p .start + p .len ≤ length s → length (spanned s p) ≡ p .len

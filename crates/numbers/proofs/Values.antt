@@ -1,20 +1,20 @@
 -- Digits and their values: what a byte is worth, one digit more, the limit, and what a number that was read lies within.
-use Prim.Native.Nat.{ℕ, zero, suc, _+_, _-_, _*_, _/_, _^_, _≤_, _<_}
-use mathlib.Core.Path.{_≡_, refl, sym, _∙_, ap}
+use Prim.Native.Nat.{ℕ, _+_, _-_, _*_, _/_, _≤_, _<_}
+use mathlib.Core.Path.{_≡_, refl, sym, _∙_}
 use mathlib.Core.List.{List, [], _∷_}
-use mathlib.Core.Bool.{Bool, true, false, cond, _&&_}
-use mathlib.Core.Option.{Option, none, some}
+use mathlib.Core.Bool.{Bool, true, false, cond, _&&_, and-false}
+use mathlib.Core.Option.{none, some}
 use native.Mathlib.Nat.{le-refl, le-trans, le-mul-of-pos-right, le-div-iff-mul-le, div-lt-iff-lt-mul, lt-of-lt-of-le}
 use native.Mathlib.Numerals.{add-one}
 use native.Mathlib.Omega.{arith}
-use lib.Dec.{leb, ltb}
+use lib.Dec.{leb}
 use lib.ListN.{length, drop, getD, drop-of-length-le}
 use lib.Seq.{drop-cons}
 use borrow.Author.Tests.{le-leb, lt-leb, lt-ltb, le-ltb, leb-true}
 use Rattle.numbers.specs.declared.digits.Radix.{Radix}
 use Rattle.numbers.specs.declared.digits.Radix.the-variants.{Binary, Decimal, Hex}
 use Rattle.numbers.specs.Numbers.{baseOf, digitOf, allDigits, valueFrom, digitsFrom, digitsOf}
-use Rattle.numbers.proofs.Bools.{none-some, and-false}
+use Rattle.numbers.proofs.Bools.{none-some}
 
 -- a base is 2 at least and 16 at most
 pub base-bounds : (r : Radix) → (2 ≤ baseOf r) × (baseOf r ≤ 16)

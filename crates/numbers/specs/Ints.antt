@@ -7,7 +7,7 @@ use lib.Signed.{leZ}
 use Rattle.numbers.specs.declared.ints.Checked.{Checked}
 use Rattle.numbers.specs.declared.ints.Checked.the-variants.{Fits, Beyond}
 
--- z, where it lies from lo to hi
+-- does z lie from lo to hi?
 abbrev pub within : ℤ → ℤ → ℤ → Bool
 within lo hi z = leZ lo z && leZ z hi
 
@@ -29,7 +29,7 @@ abbrev pub signTimes : Bool → ℤ → ℤ
 signTimes true z = negℤ z
 signTimes false z = z
 
--- refusal 7: a byte is 0 to 255, a half 0 to 65,535
+-- refusal 7: a byte is 0 to 255, a half 0 to 65,535; the bounds are the Rust's
 abbrev pub isByte : ℤ → Bool
 isByte z = within (pos 0) (pos 255) z
 

@@ -1,7 +1,7 @@
 -- Character literals and strings. Document 01, "Text, numbers, registers" and "Lines to places".
 use Prim.Native.Nat.{ℕ, _+_, _-_}
-use mathlib.Core.List.{List, [], _∷_}
-use mathlib.Core.Bool.{Bool, true, false, cond, _&&_}
+use mathlib.Core.List.{List}
+use mathlib.Core.Bool.{Bool, cond, _&&_}
 use mathlib.Core.Option.{Option, none, some}
 use lib.Dec.{leb, eqb}
 use lib.ListN.{length, getD, take, drop}
@@ -46,7 +46,7 @@ isString t = leb 2 (length t) && eqb (getD t 0 0) (byte "\"") && eqb (getD t (le
 unfoldable pub unquoted : List ℕ → List ℕ
 unquoted t = take (length t - 2) (drop 1 t)
 
--- where what stands between the quotes is in s
+-- where what stands between the quotes is in s (proofs/Quoted.antt ties it to `unquoted`: `str-lit-text`)
 unfoldable pub strLitOf : List ℕ → Option Span
 strLitOf s = cond (isString (trimmed s)) (some (record { start = leadingSpaces s + 1; len = length (trimmed s) - 2 })) none
 

@@ -1,11 +1,11 @@
 -- Numbers as texts. Document 01, "Text, numbers, registers", the second rule.
 use Prim.Native.Nat.{ℕ, _+_, _-_, _*_, _^_}
 use mathlib.Core.List.{List, [], _∷_}
-use mathlib.Core.Bool.{Bool, true, false, cond, _&&_, _||_}
+use mathlib.Core.Bool.{Bool, true, cond, _&&_, _||_}
 use mathlib.Core.Option.{Option, none, some}
 use lib.Dec.{leb, ltb}
-use lib.ListN.{length, drop}
-use lib.IntN.{ℤ, pos, negsuc, negℤ, _-ℤ_}
+use lib.ListN.{drop}
+use lib.IntN.{ℤ, pos, negℤ, _-ℤ_}
 use Rattle.numbers.specs.declared.digits.Radix.{Radix}
 use Rattle.numbers.specs.declared.digits.Radix.the-variants as radix
 use Rattle.numbers.specs.declared.digits.Digits.{Digits}
@@ -14,7 +14,7 @@ use Rattle.numbers.specs.declared.imm.Imm.{Imm}
 use Rattle.numbers.specs.declared.imm.Imm.the-variants as imm
 use Rattle.numbers.specs.declared.imm.Imm64.{Imm64}
 use Rattle.numbers.specs.declared.imm.Imm64.the-variants as imm64
-use Rattle.numbers.specs.Text.{text, byte, trimmed, startsWith}
+use Rattle.numbers.specs.Text.{text, byte, trimmed, startsWith, oneSpaced}
 use Rattle.numbers.specs.Ints.{fit64, isSigned32, isUnsigned32}
 use Rattle.numbers.specs.Literals.{charLitOf}
 
@@ -77,7 +77,7 @@ prefixed s =
     (cond (startsWith (text "0b") s || startsWith (text "0B") s) (signedDigits 2 (drop 2 s))
     (signedDigits 10 s))
 
--- minus the number, where 64 signed bits hold that
+-- minus the number, which fits "before the outer sign is applied", where 64 signed bits hold that too
 abbrev pub negated : Option ℤ → Option ℤ
 negated (some z) = fit64 (negℤ z)
 negated none = none
@@ -108,6 +108,10 @@ narrowed none = none
 
 unfoldable pub immOf : List ℕ → Option ℤ
 immOf s = narrowed (imm64Of s)
+
+-- "inside pseudos whitespace runs become one space": what `parse_imm` takes there, where `'` and white space and `'` is 32
+unfoldable pub spacedImmOf : List ℕ → Option ℤ
+spacedImmOf s = immOf (oneSpaced s)
 
 -- what an answer says
 abbrev pub immValue : Imm → Option ℤ

@@ -1,11 +1,10 @@
 -- Registers: "x0 to x31 or an ABI name, in either letter case; `x05` and `x+5` are x5". Document 01, "Text, numbers, registers".
 use Prim.Native.Nat.{ℕ, _+_, _*_}
 use mathlib.Core.List.{List, [], _∷_, map}
-use mathlib.Core.Bool.{Bool, true, false, cond, _&&_, _||_}
+use mathlib.Core.Bool.{cond, _&&_, _||_}
 use mathlib.Core.Option.{Option, none, some}
 use lib.Dec.{leb, ltb}
 use lib.ListN.{drop}
-use Rattle.numbers.specs.declared.registers.Register.{Register}
 use Rattle.numbers.specs.declared.registers.Reg.{Reg}
 use Rattle.numbers.specs.declared.registers.Reg.the-variants as reg
 use Rattle.numbers.specs.Text.{text, byte, trimmed, startsWith, same}
@@ -16,19 +15,19 @@ pub record Named : Type 0 where
   pub name : List ℕ
   pub number : ℕ
 
-abbrev named : List ℕ → ℕ → Named
-named t n = record { name = t; number = n }
+abbrev abi : List ℕ → ℕ → Named
+abi t n = record { name = t; number = n }
 
 -- the ABI names of the RISC-V calling convention; s0 is also fp
 unfoldable pub abiNames : List Named
 abiNames =
-    named (text "zero") 0 ∷ named (text "ra") 1 ∷ named (text "sp") 2 ∷ named (text "gp") 3 ∷ named (text "tp") 4 ∷
-    named (text "t0") 5 ∷ named (text "t1") 6 ∷ named (text "t2") 7 ∷ named (text "s0") 8 ∷ named (text "s1") 9 ∷
-    named (text "a0") 10 ∷ named (text "a1") 11 ∷ named (text "a2") 12 ∷ named (text "a3") 13 ∷
-    named (text "a4") 14 ∷ named (text "a5") 15 ∷ named (text "a6") 16 ∷ named (text "a7") 17 ∷
-    named (text "s2") 18 ∷ named (text "s3") 19 ∷ named (text "s4") 20 ∷ named (text "s5") 21 ∷ named (text "s6") 22 ∷
-    named (text "s7") 23 ∷ named (text "s8") 24 ∷ named (text "s9") 25 ∷ named (text "s10") 26 ∷ named (text "s11") 27 ∷
-    named (text "t3") 28 ∷ named (text "t4") 29 ∷ named (text "t5") 30 ∷ named (text "t6") 31 ∷ named (text "fp") 8 ∷ []
+    abi (text "zero") 0 ∷ abi (text "ra") 1 ∷ abi (text "sp") 2 ∷ abi (text "gp") 3 ∷ abi (text "tp") 4 ∷
+    abi (text "t0") 5 ∷ abi (text "t1") 6 ∷ abi (text "t2") 7 ∷ abi (text "s0") 8 ∷ abi (text "s1") 9 ∷
+    abi (text "a0") 10 ∷ abi (text "a1") 11 ∷ abi (text "a2") 12 ∷ abi (text "a3") 13 ∷
+    abi (text "a4") 14 ∷ abi (text "a5") 15 ∷ abi (text "a6") 16 ∷ abi (text "a7") 17 ∷
+    abi (text "s2") 18 ∷ abi (text "s3") 19 ∷ abi (text "s4") 20 ∷ abi (text "s5") 21 ∷ abi (text "s6") 22 ∷
+    abi (text "s7") 23 ∷ abi (text "s8") 24 ∷ abi (text "s9") 25 ∷ abi (text "s10") 26 ∷ abi (text "s11") 27 ∷
+    abi (text "t3") 28 ∷ abi (text "t4") 29 ∷ abi (text "t5") 30 ∷ abi (text "t6") 31 ∷ abi (text "fp") 8 ∷ []
 
 -- the number of a name in a table
 unfoldable pub numberIn : List Named → List ℕ → Option ℕ
@@ -39,7 +38,7 @@ numberIn (x ∷ xs) s = cond (same (x .name) s) (some (x .number)) (numberIn xs 
 abbrev pub lower : ℕ → ℕ
 lower b = cond (leb (byte "A") b && leb b (byte "Z")) (b + 32) b
 
--- a name as one number, as the code compares it: the first byte lowest, a 1 after the last; no two names have the same
+-- a name as one number, as the code compares it: the first byte lowest, a 1 after the last; of texts of bytes no two have the same
 unfoldable pub keyOf : List ℕ → ℕ
 keyOf [] = 1
 keyOf (x ∷ xs) = keyOf xs * 256 + x

@@ -1,5 +1,5 @@
 -- Text: white space, trimming, the comment cut, prefixes and names. Document 01, "Text, numbers, registers". A text is its bytes.
-use Prim.Native.Nat.{ℕ, suc, _+_}
+use Prim.Native.Nat.{ℕ, suc}
 use Prim.Native.Char.{Char, code}
 use Prim.Native.String as S
 use Prim.Native.String.{String}
@@ -25,10 +25,14 @@ byte c = code c
 abbrev pub isSpace : ℕ → Bool
 isSpace b = eqb b 32 || (leb 9 b && leb b 13)
 
+-- how many bytes a text begins with that meet a test
+unfoldable pub leading : (ℕ → Bool) → List ℕ → ℕ
+leading test [] = 0
+leading test (x ∷ xs) = cond (test x) (suc (leading test xs)) 0
+
 -- how many bytes of white space a text begins with
-unfoldable pub leadingSpaces : List ℕ → ℕ
-leadingSpaces [] = 0
-leadingSpaces (x ∷ xs) = cond (isSpace x) (suc (leadingSpaces xs)) 0
+abbrev pub leadingSpaces : List ℕ → ℕ
+leadingSpaces s = leading isSpace s
 
 -- a text without the white space at its start
 unfoldable pub trimStart : List ℕ → List ℕ
@@ -66,7 +70,7 @@ indexOf b (x ∷ xs) = cond (eqb x b) 0 (suc (indexOf b xs))
 unfoldable pub before : ℕ → List ℕ → List ℕ
 before b s = take (indexOf b s) s
 
--- "A line is cut at its first `;`, then at its first `#`"
+-- "A line is cut at its first `;`, then at its first `#`"; "Quotes and character literals protect nothing"
 unfoldable pub uncommented : List ℕ → List ℕ
 uncommented s = before (byte "#") (before (byte ";") s)
 

@@ -1,5 +1,6 @@
 // Digits in base 2, 10 and 16, with a limit.
 ghost use mathlib.Core.Path.{_≡_};
+ghost use Prim.Native.Nat.{_/_};
 ghost use Rattle.numbers.specs.Numbers.{baseOf, digitOf, digitsOf, digitsValue};
 
 pub enum Radix {
@@ -16,6 +17,17 @@ impl Radix {
             Radix::Binary => 2,
             Radix::Decimal => 10,
             Radix::Hex => 16,
+        }
+    }
+
+    // The limit divided by the base. Each arm divides by a constant, which costs no division.
+    fn quotient(self, limit: u64) -> u64
+        ensures { λ r. ⌜ r ≡ limit / baseOf self ⌝ }
+    {
+        match self {
+            Radix::Binary => limit / 2,
+            Radix::Decimal => limit / 10,
+            Radix::Hex => limit / 16,
         }
     }
 }
@@ -46,7 +58,7 @@ pub fn parse_digits(s: &[u8], radix: Radix, limit: u64) -> Digits
         return Digits::Invalid;
     }
     let base = radix.base();
-    let most = limit / base;
+    let most = radix.quotient(limit);
     let mut value: u64 = 0;
     let mut i = 0;
     while i < s.len() {

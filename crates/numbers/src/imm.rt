@@ -7,12 +7,14 @@ use crate::ints::checked_neg;
 use crate::ints::in_signed32;
 use crate::ints::in_unsigned32;
 use crate::literals::parse_char_lit;
+use crate::text::first_is;
+use crate::text::same_one_spaced;
 use crate::text::starts_with;
 use crate::text::trim;
 ghost use mathlib.Core.Path.{_≡_};
 ghost use Prim.Native.Nat.{_-_, _^_};
 ghost use Rattle.numbers.specs.Numbers.{baseOf, digitsOf, plus, minus, signedDigits, prefixed, negated};
-ghost use Rattle.numbers.specs.Numbers.{outerSigned, numberOf, literalOf, imm64Of, narrowed, immOf, immValue, imm64Value};
+ghost use Rattle.numbers.specs.Numbers.{outerSigned, numberOf, imm64Of, immOf, spacedImmOf, immValue, imm64Value};
 
 pub enum Imm {
     Value(i32),
@@ -51,10 +53,10 @@ fn negative(s: &[u8], radix: Radix) -> Imm64
 fn signed_digits(digits: &[u8], radix: Radix) -> Imm64
     ensures { λ r. ⌜ imm64Value r ≡ signedDigits (baseOf radix) (now (digits .entry)) ⌝ }
 {
-    if starts_with(digits, b"-") {
+    if first_is(digits, b'-') {
         return negative(&digits[1..], radix);
     }
-    if starts_with(digits, b"+") {
+    if first_is(digits, b'+') {
         return positive(&digits[1..], radix);
     }
     positive(digits, radix)
@@ -64,6 +66,9 @@ fn signed_digits(digits: &[u8], radix: Radix) -> Imm64
 fn prefixed_number(s: &[u8]) -> Imm64
     ensures { λ r. ⌜ imm64Value r ≡ prefixed (now (s .entry)) ⌝ }
 {
+    if !first_is(s, b'0') {
+        return signed_digits(s, Radix::Decimal);
+    }
     if starts_with(s, b"0x") | starts_with(s, b"0X") {
         return signed_digits(&s[2..], Radix::Hex);
     }
@@ -90,26 +95,28 @@ fn negated_number(s: &[u8]) -> Imm64
 fn trimmed_number(s: &[u8]) -> Imm64
     ensures { λ r. ⌜ imm64Value r ≡ outerSigned (now (s .entry)) ⌝ }
 {
-    if starts_with(s, b"-") {
+    if first_is(s, b'-') {
         return negated_number(&s[1..]);
     }
-    if starts_with(s, b"+") {
+    if first_is(s, b'+') {
         return prefixed_number(&s[1..]);
     }
     prefixed_number(s)
 }
 
+// A number, but no character literal: what an expression's number is.
 pub fn parse_signed_prefixed_i64(s: &[u8]) -> Imm64
     ensures { λ r. ⌜ imm64Value r ≡ numberOf (now (s .entry)) ⌝ }
 {
     trimmed_number(trim(s))
 }
 
+// A number or a character literal, of 64 signed bits.
 pub fn parse_imm64(s: &[u8]) -> Imm64
     ensures { λ r. ⌜ imm64Value r ≡ imm64Of (now (s .entry)) ⌝ }
 {
     let t = trim(s);
-    if starts_with(t, b"'") {
+    if first_is(t, b'\'') {
         return widened(parse_char_lit(t));
     }
     trimmed_number(t)
@@ -125,7 +132,7 @@ pub fn widened(n: Imm) -> Imm64
     }
 }
 
-// -2^31 to 2^32 - 1, the upper half as negative.
+// A number or a character literal: -2^31 to 2^32 - 1, the upper half as negative.
 pub fn parse_imm(s: &[u8]) -> Imm
     ensures { λ r. ⌜ immValue r ≡ immOf (now (s .entry)) ⌝ }
 {
@@ -139,4 +146,14 @@ pub fn parse_imm(s: &[u8]) -> Imm
         return Imm::Value((v - 4294967296) as i32);
     }
     Imm::Invalid
+}
+
+// A pseudo's number, where each run of white space is one space: a quote, white space and a quote are 32.
+pub fn parse_imm_one_spaced(operand: &[u8]) -> Imm
+    ensures { λ r. ⌜ immValue r ≡ spacedImmOf (now (operand .entry)) ⌝ }
+{
+    if same_one_spaced(trim(operand), b"' '") {
+        return Imm::Value(32);
+    }
+    parse_imm(operand)
 }

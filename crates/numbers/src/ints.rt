@@ -10,6 +10,7 @@ pub enum Checked {
     Beyond,
 }
 
+// a + b, compared with the bounds before it is made.
 pub fn checked_add(a: i64, b: i64) -> Checked
     ensures { λ r. ⌜ checkedValue r ≡ fit64 (a +ℤ b) ⌝ }
 {
@@ -44,12 +45,14 @@ pub fn checked_sign(minus: bool, v: i64) -> Checked
     Checked::Fits(v)
 }
 
+// 8 bits without a sign: a `.byte`'s number.
 pub fn in_byte(v: i32) -> bool
     ensures { λ r. ⌜ r ≡ isByte v ⌝ }
 {
     (0 <= v) & (v <= 255)
 }
 
+// 16 bits without a sign: a `.half`'s number.
 pub fn in_half(v: i32) -> bool
     ensures { λ r. ⌜ r ≡ isHalf v ⌝ }
 {

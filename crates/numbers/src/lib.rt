@@ -1,5 +1,5 @@
 // Text, numbers, literals and registers, read from bytes: the leaves of the layout.
-// No function here asks anything of its caller, and each answer equals a definition of specs/.
+// No public function asks anything of its caller, and each answer equals a definition of specs/.
 pub mod digits;
 pub mod imm;
 pub mod ints;

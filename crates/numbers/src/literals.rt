@@ -59,6 +59,7 @@ fn is_string(t: &[u8]) -> bool
     (t[0] == b'"') & (t[t.len() - 1] == b'"')
 }
 
+// A string, with white space around it or without; the span is of s.
 pub fn parse_str_lit(s: &[u8]) -> StrLit
     ensures { λ r. ⌜ strLitSpan r ≡ strLitOf (now (s .entry)) ⌝ }
 {

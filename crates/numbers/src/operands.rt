@@ -2,14 +2,13 @@
 use crate::text::Span;
 use crate::text::find;
 use crate::text::is_space;
-use crate::text::leading_spaces;
-use crate::text::text_before;
 use crate::text::trim_end_len;
 use crate::text::trim_span;
 ghost use mathlib.Core.Path.{_≡_};
 ghost use Rattle.numbers.specs.Operands.{operandAt, leadingBlanks, itemOperandHere, itemOperandAt};
 
-// The operand that was found and the place to go on from, or the end of the list.
+// The operand that was found and the place after its comma, to go on from, or the end of the list. Where no comma
+// follows, that place is one past the text's length, and there is no operand there.
 pub enum Operand {
     At(Span, usize),
     End,
@@ -55,7 +54,7 @@ fn item_operand_here(s: &[u8], at: usize) -> Operand
     let t = &s[at..];
     let end = find(t, b',');
     let len = trim_end_len(&t[..end]);
-    Operand::At(Span { start: at, len }, at + end)
+    Operand::At(Span { start: at, len }, at + end + 1)
 }
 
 // An item's next operand from a place on; empties are dropped.

@@ -2,7 +2,7 @@
 use crate::digits::Digits;
 use crate::digits::Radix;
 use crate::digits::parse_digits;
-use crate::text::starts_with;
+use crate::text::first_is;
 use crate::text::trim;
 ghost use mathlib.Core.Path.{_≡_};
 ghost use mathlib.Core.List.{map};
@@ -140,6 +140,7 @@ fn name_key(s: &[u8]) -> u64
     key
 }
 
+// The register of an ABI name, in either letter case.
 fn abi_register(s: &[u8]) -> Reg
     ensures { λ r. ⌜ registerNumber r ≡ numberIn abiNames (map lower (now (s .entry))) ⌝ }
 {
@@ -147,16 +148,19 @@ fn abi_register(s: &[u8]) -> Reg
         return Reg::Invalid;
     }
     let key = name_key(s);
+    let keys = ABI_KEYS;
+    let numbers = ABI_NUMBERS;
     let mut n = 0;
     while n < 33 {
-        if ABI_KEYS[n] == key {
-            return Reg::Valid(Register(ABI_NUMBERS[n]));
+        if keys[n] == key {
+            return Reg::Valid(Register(numbers[n]));
         }
         n += 1;
     }
     Reg::Invalid
 }
 
+// The register whose number the digits are, 31 at most.
 fn numbered(s: &[u8]) -> Reg
     ensures { λ r. ⌜ registerNumber r ≡ digitsOf 10 31 (now (s .entry)) ⌝ }
 {
@@ -170,17 +174,18 @@ fn numbered(s: &[u8]) -> Reg
 fn x_register(s: &[u8]) -> Reg
     ensures { λ r. ⌜ registerNumber r ≡ xNumber (now (s .entry)) ⌝ }
 {
-    if starts_with(s, b"+") {
+    if first_is(s, b'+') {
         return numbered(&s[1..]);
     }
     numbered(s)
 }
 
+// A register, with white space around it or without.
 pub fn parse_reg(s: &[u8]) -> Reg
     ensures { λ r. ⌜ registerNumber r ≡ registerOf (now (s .entry)) ⌝ }
 {
     let t = trim(s);
-    if starts_with(t, b"x") | starts_with(t, b"X") {
+    if first_is(t, b'x') | first_is(t, b'X') {
         return x_register(&t[1..]);
     }
     abi_register(t)

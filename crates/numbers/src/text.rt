@@ -1,6 +1,7 @@
 // White space, trimming, the comment cut, prefixes and names, on slices and spans.
 ghost use mathlib.Core.Path.{_≡_};
 ghost use Prim.Native.Nat.{_<_};
+ghost use mathlib.Core.List.{[], _∷_};
 ghost use lib.ListN.{length, drop};
 ghost use Rattle.numbers.specs.Text.{isSpace, leadingSpaces, trimEnd, trimmed, trimSpan, spanned};
 ghost use Rattle.numbers.specs.Text.{indexOf, before, uncommented, statementSpan};
@@ -115,6 +116,16 @@ pub fn statement_span(line: &[u8]) -> Span
     ensures { λ r. ⌜ r ≡ statementSpan (now (line .entry)) ⌝ }
 {
     trim_span(cut_comment(line))
+}
+
+// Does s begin with the byte b?
+pub fn first_is(s: &[u8], b: u8) -> bool
+    ensures { λ r. ⌜ r ≡ startsWith (b ∷ []) (now (s .entry)) ⌝ }
+{
+    if s.len() == 0 {
+        return false;
+    }
+    s[0] == b
 }
 
 pub fn starts_with(s: &[u8], prefix: &[u8]) -> bool

@@ -101,15 +101,19 @@ fn operand(input: &[u8], at: usize, keep_empty: bool) -> Operand {
     item_operand_at(input, at)
 }
 
-// The operands of input, joined by commas, are expected. Each is told apart by its place in expected.
+// The operands of input, joined by commas, are expected. Each is told apart by its place in expected. Where empties are
+// dropped, an empty operand is a difference.
 fn operands_agree(input: &[u8], expected: &[u8], keep_empty: bool) -> bool {
     let mut at = 0;
     let mut place = 0;
     let mut turns = 0;
-    while turns <= input.len() {
+    while turns <= input.len() + 1 {
         let Operand::At(span, next) = operand(input, at, keep_empty) else {
-            return ends_agree(place, expected);
+            return ends_agree(place, expected, keep_empty);
         };
+        if !keep_empty & (span.len == 0) {
+            return false;
+        }
         if !part_agrees(span_bytes(input, span), expected, place) {
             return false;
         }
@@ -117,13 +121,13 @@ fn operands_agree(input: &[u8], expected: &[u8], keep_empty: bool) -> bool {
         at = next;
         turns += 1;
     }
-    ends_agree(place, expected)
+    false
 }
 
-// All of expected was compared: the last part ends it, or there is none.
-fn ends_agree(place: usize, expected: &[u8]) -> bool {
+// All of expected was compared: the last part ends it, or there is none, as there may be where empties are dropped.
+fn ends_agree(place: usize, expected: &[u8], keep_empty: bool) -> bool {
     if place == 0 {
-        return expected.len() == 0;
+        return !keep_empty & (expected.len() == 0);
     }
     place - 1 == expected.len()
 }

@@ -1,5 +1,5 @@
 -- `imm::negative`: digits whose value is at most 2^63 are an i64 after a minus, made without passing its range.
-use Prim.Native.Nat.{ℕ, _-_, _≤_, _<_}
+use Prim.Native.Nat.{_-_, _≤_}
 use mathlib.Core.Path.{_≡_, refl, sym, _∙_, ap}
 use native.Mathlib.Omega.{arith}
 use mir.Syntax.{w64}

@@ -7,11 +7,8 @@ use Rattle.numbers.proofs.imm.parse_imm64.Tie as tie
 trim-requires : tie.Need-trim-requires
 trim-requires c κs = search needs
 
-slice-aggregate-starts-with : tie.Need-slice-aggregate-starts-with
-slice-aggregate-starts-with c = search needs
-
-starts-with-requires : tie.Need-starts-with-requires
-starts-with-requires c κs = search needs
+first-is-requires : tie.Need-first-is-requires
+first-is-requires c κs = search needs
 
 parse-char-lit-requires : tie.Need-parse-char-lit-requires
 parse-char-lit-requires c κs = search needs
@@ -21,22 +18,21 @@ widened-requires c κs = search needs
 
 returns : tie.Need-returns
 unfolding imm64Of literalOf
-returns c = simp (c .widened .ensures, c .before .parse-char-lit .ensures, ← c .before .before .before .before .before .trim .ensures, ← c .before .before .before .starts-with .ensures, c .before .before .if1 .taken)
+returns c = simp (c .widened .ensures, c .before .parse-char-lit .ensures, ← c .before .before .before .before .trim .ensures, ← c .before .before .before .first-is .ensures, c .before .before .if1 .taken)
 
 trimmed-number-requires : tie.Need-trimmed-number-requires
 trimmed-number-requires c κs = search needs
 
 returns-2 : tie.Need-returns-2
 unfolding imm64Of literalOf
-returns-2 c = simp (c .trimmed-number .ensures, ← c .before .before .before .before .trim .ensures, ← c .before .before .starts-with .ensures, c .before .if1 .left)
+returns-2 c = simp (c .trimmed-number .ensures, ← c .before .before .before .trim .ensures, ← c .before .before .first-is .ensures, c .before .if1 .left)
 
 pub parse-imm64-spec : {M : Type 1} → statement M
 parse-imm64-spec =
     tie.close
     (tie.spec
     trim-requires
-    slice-aggregate-starts-with
-    starts-with-requires
+    first-is-requires
     parse-char-lit-requires
     widened-requires
     returns

@@ -1,6 +1,6 @@
 -- `imm::signed_digits`: the tests are those of the definition, and the rest of the text is what stands after the sign.
-use Prim.Native.Nat.{ℕ, _≤_}
-use mathlib.Core.Path.{_≡_, refl, sym, _∙_}
+use Prim.Native.Nat.{_≤_}
+use mathlib.Core.Path.{sym, _∙_}
 use mathlib.Core.List.{[], _∷_}
 use native.Mathlib.Omega.{arith}
 use lib.ListN.{length}
@@ -13,18 +13,14 @@ use Rattle.numbers.proofs.imm.signed_digits.Statement.{statement}
 use Rattle.numbers.proofs.imm.signed_digits.Tie as tie
 
 -- a text that begins with the sign has a byte
-after-minus : (c : tie.Then1) → 1 ≤ length (now (c .before .before .before .before .args .digits))
-after-minus c = prefix-length (45 ∷ []) _ (sym (c .before .starts-with .ensures) ∙ c .if1 .taken)
+after-minus : (c : tie.Then1) → 1 ≤ length (now (c .before .before .before .args .digits))
+after-minus c = prefix-length (45 ∷ []) _ (sym (c .before .first-is .ensures) ∙ c .if1 .taken)
 
--- a text that begins with the sign has a byte
-after-plus : (c : tie.Then2) → 1 ≤ length (now (c .before .before .before .before .before .before .before .args .digits))
-after-plus c = prefix-length (43 ∷ []) _ (sym (c .before .starts-with2 .ensures) ∙ c .if2 .taken)
+after-plus : (c : tie.Then2) → 1 ≤ length (now (c .before .before .before .before .before .args .digits))
+after-plus c = prefix-length (43 ∷ []) _ (sym (c .before .first-is2 .ensures) ∙ c .if2 .taken)
 
-slice-aggregate-starts-with : tie.Need-slice-aggregate-starts-with
-slice-aggregate-starts-with c = search needs
-
-starts-with-requires : tie.Need-starts-with-requires
-starts-with-requires c κs = search needs
+first-is-requires : tie.Need-first-is-requires
+first-is-requires c κs = search needs
 
 sub-negative : tie.Need-sub-negative
 sub-negative c = omega (arith, after-minus c)
@@ -40,13 +36,10 @@ negative-requires c κs = search needs
 
 returns : tie.Need-returns
 unfolding signedDigits
-returns c = simp (c .negative .ensures, c .before .before .if1 .taken, ← c .before .before .before .starts-with .ensures, tail)
+returns c = simp (c .negative .ensures, c .before .before .if1 .taken, ← c .before .before .before .first-is .ensures, tail)
 
-slice-aggregate-starts-with-2 : tie.Need-slice-aggregate-starts-with-2
-slice-aggregate-starts-with-2 c = search needs
-
-starts-with-requires-2 : tie.Need-starts-with-requires-2
-starts-with-requires-2 c κs = search needs
+first-is-requires-2 : tie.Need-first-is-requires-2
+first-is-requires-2 c κs = search needs
 
 sub-positive : tie.Need-sub-positive
 sub-positive c = omega (arith, after-plus c)
@@ -62,28 +55,26 @@ positive-requires c κs = search needs
 
 returns-2 : tie.Need-returns-2
 unfolding signedDigits
-returns-2 c = simp (c .positive .ensures, c .before .before .if2 .taken, ← c .before .before .before .starts-with2 .ensures, c .before .before .before .before .before .if1 .left, ← c .before .before .before .before .before .before .starts-with .ensures, tail)
+returns-2 c = simp (c .positive .ensures, c .before .before .if2 .taken, ← c .before .before .before .first-is2 .ensures, c .before .before .before .before .if1 .left, ← c .before .before .before .before .before .first-is .ensures, tail)
 
 positive-requires-2 : tie.Need-positive-requires-2
 positive-requires-2 c κs = search needs
 
 returns-3 : tie.Need-returns-3
 unfolding signedDigits
-returns-3 c = simp (c .positive2 .ensures, c .before .if2 .left, ← c .before .before .starts-with2 .ensures, c .before .before .before .before .if1 .left, ← c .before .before .before .before .before .starts-with .ensures, tail)
+returns-3 c = simp (c .positive2 .ensures, c .before .if2 .left, ← c .before .before .first-is2 .ensures, c .before .before .before .if1 .left, ← c .before .before .before .before .first-is .ensures, tail)
 
 pub signed-digits-spec : {M : Type 1} → statement M
 signed-digits-spec =
     tie.close
     (tie.spec
-    slice-aggregate-starts-with
-    starts-with-requires
+    first-is-requires
     sub-negative
     part-negative-start
     part-negative-end
     negative-requires
     returns
-    slice-aggregate-starts-with-2
-    starts-with-requires-2
+    first-is-requires-2
     sub-positive
     part-positive-start
     part-positive-end

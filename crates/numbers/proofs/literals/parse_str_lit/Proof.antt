@@ -4,6 +4,7 @@ use native.Mathlib.Omega.{arith}
 use lib.Seq.{length-take-le}
 use denote.Ref.{now}
 use borrow.Author.Needs.{needs}
+use Rattle.numbers.specs.Text.{isSpace}
 use Rattle.numbers.proofs.Trims.{leading-within, trim-end-within}
 use Rattle.numbers.proofs.Quoted.{StringAt, str-lit-yes, str-lit-no}
 use Rattle.numbers.proofs.literals.parse_str_lit.Statement.{statement}
@@ -13,7 +14,7 @@ leading-spaces-requires : tie.Need-leading-spaces-requires
 leading-spaces-requires c κs = search needs
 
 sub-t : tie.Need-sub-t
-sub-t c = omega (arith, c .leading-spaces .ensures, leading-within (now (c .before .before .args .s)))
+sub-t c = omega (arith, c .leading-spaces .ensures, leading-within isSpace (now (c .before .before .args .s)))
 
 part-t-start : tie.Need-part-t-start
 part-t-start c = sub-t c

@@ -3,9 +3,9 @@ use mathlib.Core.Path.{refl, sym}
 use native.Mathlib.Omega.{arith}
 use denote.Ref.{now}
 use lib.ListN.{drop, length-drop}
-use Rattle.numbers.specs.Operands.{itemOperandAt}
-use Rattle.numbers.proofs.Trims.{tail}
-use Rattle.numbers.proofs.Parts.{item-past, blanks-within}
+use Rattle.numbers.specs.Operands.{isBlank, itemOperandAt}
+use Rattle.numbers.proofs.Trims.{tail, leading-within}
+use Rattle.numbers.proofs.Parts.{item-past}
 use borrow.Author.Needs.{needs}
 use Rattle.numbers.proofs.operands.item_operand_at.Statement.{statement}
 use Rattle.numbers.proofs.operands.item_operand_at.Tie as tie
@@ -28,7 +28,7 @@ leading-blanks-requires c κs = search needs
 add-item-operand-here : tie.Need-add-item-operand-here
 add-item-operand-here c =
     let a = c .before .before .before .before .args in
-    omega (arith, simp tail at (c .leading-blanks .ensures), blanks-within (drop (a .at) (now (a .s))), length-drop (a .at) (now (a .s)))
+    omega (arith, simp tail at (c .leading-blanks .ensures), leading-within isBlank (drop (a .at) (now (a .s))), length-drop (a .at) (now (a .s)))
 
 item-operand-here-requires : tie.Need-item-operand-here-requires
 item-operand-here-requires c κs = search needs

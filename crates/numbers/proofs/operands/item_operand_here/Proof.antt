@@ -1,5 +1,6 @@
--- `operands::item_operand_here`: the definition makes the code's steps; the comma's place lies within the text, so the sum fits.
+-- `operands::item_operand_here`: the definition makes the code's steps; the comma's place lies within the text, so the sums fit.
 use mathlib.Core.Path.{refl, sym}
+use native.Mathlib.Numerals.{add-one}
 use lib.Seq.{length-take-le}
 use denote.Ref.{now}
 use borrow.Author.Tests.{le-leb, lt-leb}
@@ -39,9 +40,15 @@ add-t6 c =
     let h = find-within (byte ",") (now (a .s)) (a .at) (c .before .before .find .result) (search needs) (c .before .before .find .ensures) in
     search needs
 
+add-t13 : tie.Need-add-t13
+add-t13 c =
+    let a = c .before .before .before .before .before .before .args in
+    let h = find-within (byte ",") (now (a .s)) (a .at) (c .before .before .find .result) (search needs) (c .before .before .find .ensures) in
+    search needs
+
 returns-2 : tie.Need-returns-2
 unfolding itemOperandHere before
-returns-2 c = rw (lt-leb _ _ (c .before .before .before .before .if1 .left), c .trim-end-len .ensures, c .before .before .find .ensures, tail) refl
+returns-2 c = rw (lt-leb _ _ (c .before .before .before .before .if1 .left), c .trim-end-len .ensures, c .before .before .find .ensures, tail, add-one) refl
 
 pub item-operand-here-spec : {M : Type 1} → statement M
 item-operand-here-spec =
@@ -55,4 +62,5 @@ item-operand-here-spec =
     slice-aggregate-trim-end-len
     trim-end-len-requires
     add-t6
+    add-t13
     returns-2)

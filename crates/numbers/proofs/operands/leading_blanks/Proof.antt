@@ -6,8 +6,8 @@ use lib.ListN.{length, drop}
 use denote.Ref.{now}
 use borrow.Author.Needs.{needs}
 use borrow.Author.Tests.{not-true, not-false}
-use Rattle.numbers.specs.Operands.{leadingBlanks}
-use Rattle.numbers.proofs.Parts.{blank-more, blank-stop, blank-end}
+use Rattle.numbers.specs.Operands.{isBlank, leadingBlanks}
+use Rattle.numbers.proofs.Trims.{leading-more, leading-stop, leading-end}
 use Rattle.numbers.proofs.operands.leading_blanks.Statement.{statement}
 use Rattle.numbers.proofs.operands.leading_blanks.Tie as tie
 
@@ -30,7 +30,7 @@ returns : tie.Need-returns Inv-loop μ-loop
 returns c =
     let at = c .before .before .before .before in
     let s = now (at .before .before .args .s) in
-    omega (arith, blank-stop s (at .loop .i) (search needs) (not-true _ (rw (c .before .is-space .ensures) at (c .if1 .taken))))
+    omega (arith, leading-stop isBlank s (at .loop .i) (search needs) (not-true _ (rw (c .before .is-space .ensures) at (c .if1 .taken))))
 
 add-i : tie.Need-add-i Inv-loop μ-loop
 add-i c = search needs
@@ -42,10 +42,10 @@ loop-again : tie.Need-loop-again Inv-loop μ-loop
 loop-again c =
     let at = c .before .before .before .before in
     let s = now (at .before .before .args .s) in
-    omega (arith, blank-more s (at .loop .i) (search needs) (not-false _ (rw (c .before .is-space .ensures) at (c .if1 .left))))
+    omega (arith, leading-more isBlank s (at .loop .i) (search needs) (not-false _ (rw (c .before .is-space .ensures) at (c .if1 .left))))
 
 returns-2 : tie.Need-returns-2 Inv-loop μ-loop
-returns-2 c = omega (arith, blank-end (now (c .before .before .before .args .s)) (c .before .loop .i) (c .loop-test .left))
+returns-2 c = omega (arith, leading-end isBlank (now (c .before .before .before .args .s)) (c .before .loop .i) (c .loop-test .left))
 
 pub leading-blanks-spec : {M : Type 1} → statement M
 leading-blanks-spec =

@@ -12,10 +12,10 @@ use Rattle.numbers.proofs.registers.abi_register.Statement.{statement}
 use Rattle.numbers.proofs.registers.abi_register.Tie as tie
 
 abbrev Inv-loop : tie.InvT-loop
-Inv-loop s key n₀ n = (n ≤ 33) × (numberIn (drop n abiNames) (map lower s) ≡ numberIn abiNames (map lower s))
+Inv-loop s key keys numbers n₀ n = (n ≤ 33) × (numberIn (drop n abiNames) (map lower s) ≡ numberIn abiNames (map lower s))
 
 abbrev μ-loop : tie.MeasureT-loop
-μ-loop s key n₀ n = 33 - n
+μ-loop s key keys numbers n₀ n = 33 - n
 
 returns : tie.Need-returns Inv-loop μ-loop
 returns c = abi-long (now (c .before .before .args .s)) (c .if1 .taken)
@@ -32,8 +32,8 @@ mul-if2 c = search needs
 array-read-if2 : tie.Need-array-read-if2 Inv-loop μ-loop
 array-read-if2 c = search needs
 
-array-read-t15 : tie.Need-array-read-t15 Inv-loop μ-loop
-array-read-t15 c = search needs
+array-read-t17 : tie.Need-array-read-t17 Inv-loop μ-loop
+array-read-t17 c = search needs
 
 returns-2 : tie.Need-returns-2 Inv-loop μ-loop
 unfolding abiNames keyOf
@@ -69,7 +69,7 @@ abi-register-spec =
     loop-holds
     mul-if2
     array-read-if2
-    array-read-t15
+    array-read-t17
     returns-2
     add-n
     loop-less

@@ -6,8 +6,8 @@ use lib.ListN.{length, drop}
 use denote.Ref.{now}
 use borrow.Author.Needs.{needs}
 use borrow.Author.Tests.{not-true, not-false}
-use Rattle.numbers.specs.Text.{leadingSpaces}
-use Rattle.numbers.proofs.Trims.{space-more, space-stop, space-end}
+use Rattle.numbers.specs.Text.{isSpace, leadingSpaces}
+use Rattle.numbers.proofs.Trims.{leading-more, leading-stop, leading-end}
 use Rattle.numbers.proofs.text.leading_spaces.Statement.{statement}
 use Rattle.numbers.proofs.text.leading_spaces.Tie as tie
 
@@ -30,7 +30,7 @@ returns : tie.Need-returns Inv-loop μ-loop
 returns c =
     let at = c .before .before .before .before in
     let s = now (at .before .before .args .s) in
-    omega (arith, space-stop s (at .loop .i) (search needs) (sym (c .before .is-space .ensures) ∙ not-true _ (c .if1 .taken)))
+    omega (arith, leading-stop isSpace s (at .loop .i) (search needs) (sym (c .before .is-space .ensures) ∙ not-true _ (c .if1 .taken)))
 
 add-i : tie.Need-add-i Inv-loop μ-loop
 add-i c = search needs
@@ -42,10 +42,10 @@ loop-again : tie.Need-loop-again Inv-loop μ-loop
 loop-again c =
     let at = c .before .before .before .before in
     let s = now (at .before .before .args .s) in
-    omega (arith, space-more s (at .loop .i) (search needs) (sym (c .before .is-space .ensures) ∙ not-false _ (c .if1 .left)))
+    omega (arith, leading-more isSpace s (at .loop .i) (search needs) (sym (c .before .is-space .ensures) ∙ not-false _ (c .if1 .left)))
 
 returns-2 : tie.Need-returns-2 Inv-loop μ-loop
-returns-2 c = omega (arith, space-end (now (c .before .before .before .args .s)) (c .before .loop .i) (c .loop-test .left))
+returns-2 c = omega (arith, leading-end isSpace (now (c .before .before .before .args .s)) (c .before .loop .i) (c .loop-test .left))
 
 pub leading-spaces-spec : {M : Type 1} → statement M
 leading-spaces-spec =

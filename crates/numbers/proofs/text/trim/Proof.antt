@@ -3,6 +3,7 @@ use mathlib.Core.Path.{sym, _∙_}
 use native.Mathlib.Omega.{arith}
 use lib.Seq.{length-take-le}
 use denote.Ref.{now}
+use Rattle.numbers.specs.Text.{isSpace}
 use Rattle.numbers.proofs.Trims.{leading-within, trim-end-within, take-trim-end, trim-steps}
 use borrow.Author.Needs.{needs}
 use Rattle.numbers.proofs.text.trim.Statement.{statement}
@@ -12,10 +13,10 @@ leading-spaces-requires : tie.Need-leading-spaces-requires
 leading-spaces-requires c κs = search needs
 
 sub-t : tie.Need-sub-t
-sub-t c = omega (arith, c .leading-spaces .ensures, leading-within (now (c .before .before .args .s)))
+sub-t c = omega (arith, c .leading-spaces .ensures, leading-within isSpace (now (c .before .before .args .s)))
 
 part-t-start : tie.Need-part-t-start
-part-t-start c = omega (arith, c .leading-spaces .ensures, leading-within (now (c .before .before .args .s)))
+part-t-start c = omega (arith, c .leading-spaces .ensures, leading-within isSpace (now (c .before .before .args .s)))
 
 part-t-end : tie.Need-part-t-end
 part-t-end c = search needs

@@ -2,7 +2,7 @@
 use mathlib.Core.Path.{refl}
 use native.Mathlib.Omega.{arith}
 use denote.Ref.{now}
-use Rattle.numbers.specs.Text.{trimSpan}
+use Rattle.numbers.specs.Text.{isSpace, trimSpan}
 use Rattle.numbers.proofs.Trims.{leading-within, trim-steps}
 use borrow.Author.Needs.{needs}
 use Rattle.numbers.proofs.text.trim_span.Statement.{statement}
@@ -12,10 +12,10 @@ leading-spaces-requires : tie.Need-leading-spaces-requires
 leading-spaces-requires c κs = search needs
 
 sub-trim-end-len : tie.Need-sub-trim-end-len
-sub-trim-end-len c = omega (arith, c .leading-spaces .ensures, leading-within (now (c .before .before .args .s)))
+sub-trim-end-len c = omega (arith, c .leading-spaces .ensures, leading-within isSpace (now (c .before .before .args .s)))
 
 part-trim-end-len-start : tie.Need-part-trim-end-len-start
-part-trim-end-len-start c = omega (arith, c .leading-spaces .ensures, leading-within (now (c .before .before .args .s)))
+part-trim-end-len-start c = omega (arith, c .leading-spaces .ensures, leading-within isSpace (now (c .before .before .args .s)))
 
 part-trim-end-len-end : tie.Need-part-trim-end-len-end
 part-trim-end-len-end c = search needs

@@ -1,0 +1,4 @@
+// What every program needs that replays a list of outside answers: its lines one by one, the count, the report.
+// No function here asks anything of its caller.
+pub mod lines;
+pub mod tally;
