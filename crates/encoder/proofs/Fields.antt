@@ -1,13 +1,12 @@
 -- The fields of a word are what was put in: one law for every field of every format.
-use Prim.Native.Nat.{ℕ, _+_, _*_, _/_, _%_, _^_, _<_}
-use mathlib.Core.Path.{_≡_, refl, sym, _∙_, ap}
+use Prim.Native.Nat.{ℕ, _+_, _*_, _%_, _^_, _<_}
+use mathlib.Core.Path.{_≡_, sym, _∙_, ap}
 use mathlib.Core.List.{List, [], _∷_, _++_}
 use native.Mathlib.Nat.{mod-lt, zero-mul, zero-add, add-mul, mul-assoc, add-assoc}
 use native.Mathlib.Omega.{arith}
 use lib.Arith.{digits-lt}
 use lib.Pow.{high, low, pow-add, pow-pos}
-use Rattle.encoder.specs.Formats.{Field, field, bitsIn, joined}
-use Rattle.encoder.specs.Run.{bitsAt}
+use Rattle.encoder.specs.Formats.{Field, field, bitsIn, joined, bitsAt}
 
 -- fields of n bits together are below 2^n
 pub joined-below : (fs : List Field) → joined fs < 2 ^ bitsIn fs

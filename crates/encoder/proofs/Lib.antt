@@ -1,3 +1,4 @@
+pub mod Immediates
 pub mod Fields
 pub mod Load
 pub mod WordCases

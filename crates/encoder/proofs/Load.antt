@@ -1,23 +1,23 @@
 -- What a lui and addi pair made from a number's split leaves in its register, and what a single addi does.
-use Prim.Native.Nat.{ℕ, suc, _+_, _-_, _*_, _/_, _%_, _^_, _≤_, _<_}
-use mathlib.Core.Path.{_≡_, refl, sym, _∙_, ap}
-use mathlib.Core.Bool.{Bool, true, false, cond, _&&_}
+use Prim.Native.Nat.{ℕ, suc, _+_, _-_, _*_, _/_, _%_, _^_, _<_}
+use mathlib.Core.Path.{_≡_, refl, _∙_, ap}
+use mathlib.Core.Bool.{Bool, true, false, cond}
 use mathlib.Core.List.{List, [], _∷_, map}
 use native.Mathlib.Decide.{decLt}
 use native.Mathlib.Nat.{zero-add, mod-lt}
 use native.Mathlib.Omega.{arith}
-use lib.Dec.{eqb, ltb, leb}
-use lib.IntN.{ℤ, pos, negsuc, negℤ}
-use lib.ListN.{getD, set, length, length-set}
-use lib.Seq.{getD-set-same}
+use lib.Dec.{leb, eqb}
+use lib.IntN.{ℤ, pos, negsuc}
+use lib.ListN.{length, getD, set, length-set}
+use lib.Seq.{getD-set-same, getD-set-other, set-out}
 use borrow.Author.Tests.{eq-eqb, ne-eqb, lt-ltb, le-ltb, le-leb, leb-true}
 use Rattle.numbers.specs.Ints.{isSigned12, bits}
 use Rattle.numbers.specs.declared.registers.Register.{Register}
-use Rattle.encoder.specs.declared.instruction.Instruction.the-variants.{Addi, Lui}
-use Rattle.encoder.specs.Formats.{Field, field, joined, iFields, uFields}
+use Rattle.encoder.specs.declared.instruction.Instruction.the-variants.{Addi}
+use Rattle.encoder.specs.Formats.{field, joined, iFields, uFields, bitsAt}
 use Rattle.encoder.specs.Table.{x0}
 use Rattle.encoder.specs.Encoding.{word, encoding}
-use Rattle.encoder.specs.Run.{Registers, done, bitsAt, read, extended, step, andThen, run, Leaves}
+use Rattle.encoder.specs.Run.{Registers, done, failed, read, write, lui, addi, isLui, isAddi, extended, step, andThen, run, Leaves}
 use Rattle.encoder.specs.Split.{upper, lower, signed32, loadPair}
 use Rattle.numbers.proofs.Bools.{and-left}
 use Rattle.encoder.proofs.Fields.{field-at}
@@ -112,9 +112,9 @@ small-back (negsuc n) e =
     let k : (4294967296 - suc n) % 4096 ≡ 4095 - n = omega arith in
     rw (k, le-ltb (4095 - n) 2048 (omega arith)) (omega arith)
 
--- a register that was written holds what was written
-written : (regs : List ℕ) (r v w : ℕ) → Registers regs → r < 32 → getD (set (set regs r v) r w) r 0 ≡ w
-written regs r v w g h = getD-set-same (set regs r v) r w 0 (rw (length-set regs r v, g .count) h)
+-- a register that was written last reads as what was written
+written : (regs : List ℕ) (r w : ℕ) → length regs ≡ 32 → 0 < r → r < 32 → read (set regs r w) r ≡ w
+written regs r w e some h = rw (ne-eqb r 0 (λ q. omega arith)) (getD-set-same regs r w 0 (rw e h))
 
 -- the words that the encoder gives for the pair leave the number in rd
 pub pair-leaves : (rd : Register) (b : ℕ) → 0 < rd .0 → rd .0 < 32
@@ -134,7 +134,7 @@ pair-leaves rd b some below =
               made-up b,
             )
             refl,
-        written regs r (upper b) (b % 2 ^ 32) g below,
+        written (set regs r (upper b)) r (b % 2 ^ 32) (length-set regs r (upper b) ∙ g .count) some below,
       ),
     )
 
@@ -148,6 +148,33 @@ single-leaves rd z some below small =
       λ regs g. (
         set regs r (bits 32 z),
         ap (andThen (run [])) (addi-step r 0 (bits 32 z) regs some below (omega arith)) ∙ rw (zero-add, small-back z small) refl,
-        getD-set-same regs r (bits 32 z) 0 (rw (g .count) below),
+        written regs r (bits 32 z) (g .count) some below,
       ),
     )
+
+-- registers stay registers: a step on a word below 2^32 leaves 32 of them, each below 2^32
+written-registers : (regs : List ℕ) (r v : ℕ) → Registers regs → v < 2 ^ 32 → Registers (write regs r v)
+written-registers regs r v g h = go (eqb r 0)
+  where
+    at : (i : ℕ) → Dec (i < r) → Dec (r < i) → Dec (r < length regs) → getD (set regs r v) i 0 < 2 ^ 32
+    at i (yes l) e d = rw (getD-set-other regs r i v 0 (λ q. omega arith)) (g .below i)
+    at i (no l) (yes m) d = rw (getD-set-other regs r i v 0 (λ q. omega arith)) (g .below i)
+    at i (no l) (no m) (yes d) =
+        let e : i ≡ r = omega arith in
+        rw (e, getD-set-same regs r v 0 d) h
+    at i (no l) (no m) (no d) = rw (set-out regs r v (omega arith)) (g .below i)
+
+    go : (t : Bool) → Registers (cond t regs (set regs r v))
+    go true = g
+    go false = record { count = length-set regs r v ∙ g .count; below = λ i. at i (decLt i r) (decLt r i) (decLt r (length regs)) }
+
+pub step-registers : (w : ℕ) (regs after : List ℕ) → w < 2 ^ 32 → Registers regs → step w regs ≡ done after → Registers after
+step-registers w regs after h g e = go (isLui w) (isAddi w) e
+  where
+    n : ℕ
+    n = read regs (bitsAt 5 15 w) + extended (bitsAt 12 20 w)
+
+    go : (t u : Bool) → cond t (done (lui w regs)) (cond u (done (addi w regs)) failed) ≡ done after → Registers after
+    go true u q = let k : lui w regs ≡ after = cc in rw (← k) (written-registers regs (bitsAt 5 7 w) (w / 2 ^ 12 * 2 ^ 12) g (omega arith))
+    go false true q = let k : addi w regs ≡ after = cc in rw (← k) (written-registers regs (bitsAt 5 7 w) (n % 2 ^ 32) g (mod-lt n (omega arith)))
+    go false false q = absurd (let z : _≡_ {A = ℕ} 0 1 = cc in omega arith)

@@ -19,7 +19,7 @@ pub data Answer : Type 0 where
   word : ℕ → Answer
   refused : ℕ → Answer
 
--- what each answer of the code says
+-- what each answer of the code says; "both from the encoder alone, line 0": the encoder sees no lines
 abbrev pub answerOf : Encoded → Answer
 answerOf (Word w) = word w
 answerOf BadRegister = refused 22
@@ -35,7 +35,7 @@ checked true true w = word w
 abbrev pub isRegister : Register → Bool
 isRegister r = leb (r .0) 31
 
--- the low k bits of a number's 32 are 0
+-- the low k bits of a number's 32 are 0; an immediate is a number that 32 signed bits hold
 abbrev pub lowClear : ℕ → ℤ → Bool
 lowClear k z = eqb (bits 32 z % 2 ^ k) 0
 
@@ -47,19 +47,28 @@ isBranch z = within (negℤ (pos 4096)) (pos 4094) z && lowClear 1 z
 abbrev pub isJump : ℤ → Bool
 isJump z = within (negℤ (pos 1048576)) (pos 1048574) z && lowClear 1 z
 
+-- "a shift above 31"
+abbrev pub isShift : ℕ → Bool
+isShift n = leb n 31
+
+-- "a `Lui` or `Auipc` value whose low 12 bits aren't 0"
+abbrev pub isUpper : ℤ → Bool
+isUpper z = lowClear 12 z
+
 -- the answer for a format's fields: 22's registers, 23's condition, the word
+-- (`isSigned12`: "a 12-bit number outside -2048 to 2047")
 abbrev pub wordOf : Form → Answer
 wordOf (R opcode funct3 funct7 rd rs1 rs2) =
     checked (isRegister rd && isRegister rs1 && isRegister rs2) true (joined (rFields opcode funct3 funct7 (rd .0) (rs1 .0) (rs2 .0)))
 wordOf (I opcode funct3 rd rs1 imm) =
     checked (isRegister rd && isRegister rs1) (isSigned12 imm) (joined (iFields opcode funct3 (rd .0) (rs1 .0) (bits 32 imm)))
 wordOf (Shift opcode funct3 funct7 rd rs1 shamt) =
-    checked (isRegister rd && isRegister rs1) (leb shamt 31) (joined (rFields opcode funct3 funct7 (rd .0) (rs1 .0) shamt))
+    checked (isRegister rd && isRegister rs1) (isShift shamt) (joined (rFields opcode funct3 funct7 (rd .0) (rs1 .0) shamt))
 wordOf (S opcode funct3 rs1 rs2 imm) =
     checked (isRegister rs1 && isRegister rs2) (isSigned12 imm) (joined (sFields opcode funct3 (rs1 .0) (rs2 .0) (bits 32 imm)))
 wordOf (B opcode funct3 rs1 rs2 imm) =
     checked (isRegister rs1 && isRegister rs2) (isBranch imm) (joined (bFields opcode funct3 (rs1 .0) (rs2 .0) (bits 32 imm)))
-wordOf (U opcode rd imm) = checked (isRegister rd) (lowClear 12 imm) (joined (uFields opcode (rd .0) (bits 32 imm)))
+wordOf (U opcode rd imm) = checked (isRegister rd) (isUpper imm) (joined (uFields opcode (rd .0) (bits 32 imm)))
 wordOf (J opcode rd imm) = checked (isRegister rd) (isJump imm) (joined (jFields opcode (rd .0) (bits 32 imm)))
 
 -- the word of an instruction, or its refusal

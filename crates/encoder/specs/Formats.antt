@@ -21,6 +21,10 @@ abbrev pub joined : List Field → ℕ
 joined [] = 0
 joined (f ∷ fs) = f .value % 2 ^ f .width * 2 ^ bitsIn fs + joined fs
 
+-- k bits of a word, from bit p on
+abbrev pub bitsAt : ℕ → ℕ → ℕ → ℕ
+bitsAt k p w = w / 2 ^ p % 2 ^ k
+
 -- bit lo of x and the bits above it
 abbrev pub from : ℕ → ℕ → ℕ
 from lo x = x / 2 ^ lo

@@ -3,9 +3,10 @@
 use Prim.Native.Nat.{ℕ, _+_, _-_, _*_, _/_, _%_, _^_, _<_}
 use mathlib.Core.Path.{_≡_}
 use mathlib.Core.List.{List, [], _∷_}
-use mathlib.Core.Bool.{Bool, true, false, cond, _&&_}
+use mathlib.Core.Bool.{Bool, cond, _&&_}
 use lib.Dec.{eqb, ltb}
 use lib.ListN.{length, getD, set}
+use Rattle.encoder.specs.Formats.{bitsAt}
 
 -- "32 registers below 2^32": the number of register r stands at r
 pub record Registers (regs : List ℕ) : Type 0 where
@@ -16,10 +17,6 @@ pub record Registers (regs : List ℕ) : Type 0 where
 pub data Ran : Type 0 where
   done : List ℕ → Ran
   failed : Ran
-
--- k bits of a word, from bit p on
-abbrev pub bitsAt : ℕ → ℕ → ℕ → ℕ
-bitsAt k p w = w / 2 ^ p % 2 ^ k
 
 -- "x0 always 0": it reads as 0, and is not written
 abbrev pub read : List ℕ → ℕ → ℕ
@@ -59,6 +56,6 @@ abbrev pub run : List ℕ → List ℕ → Ran
 run [] regs = done regs
 run (w ∷ ws) regs = andThen (run ws) (step w regs)
 
--- "run in order by themselves whatever the registers hold, leave .. in its register": the words leave v in register r
+-- the order's demand 3, "run in order by themselves whatever the registers hold, leave .. in its register": the words leave v in register r
 abbrev pub Leaves : List ℕ → ℕ → ℕ → Type 0
-Leaves ws r v = (regs : List ℕ) → Registers regs → (after : List ℕ) × (run ws regs ≡ done after) × (getD after r 0 ≡ v)
+Leaves ws r v = (regs : List ℕ) → Registers regs → (after : List ℕ) × (run ws regs ≡ done after) × (read after r ≡ v)

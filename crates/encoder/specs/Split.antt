@@ -1,7 +1,7 @@
 -- The split of a number's 32 bits into its upper 20 and lower 12, document 01, "What must change shape": a division by 4,096 rounded down.
 use Prim.Native.Nat.{ℕ, _+_, _-_, _*_, _/_, _%_, _^_}
 use mathlib.Core.List.{List, [], _∷_}
-use mathlib.Core.Bool.{Bool, true, false, cond}
+use mathlib.Core.Bool.{cond}
 use lib.Dec.{ltb}
 use lib.IntN.{ℤ, pos, negsuc}
 use Rattle.numbers.specs.declared.registers.Register.{Register}
@@ -13,7 +13,7 @@ use Rattle.encoder.specs.Run.{extended}
 abbrev pub upper : ℕ → ℕ
 upper b = (b + 2048) / 4096 % 2 ^ 20 * 4096
 
--- the lower part, for addi: 12 signed bits
+-- the lower part, for addi: 12 signed bits, modulo 2^32
 abbrev pub lower : ℕ → ℕ
 lower b = extended (b % 4096)
 

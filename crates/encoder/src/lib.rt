@@ -17,9 +17,8 @@ use numbers::ints::in_signed12;
 use numbers::registers::Register;
 ghost use mathlib.Core.Path.{_≡_};
 ghost use mathlib.Core.Bool.{_&&_, true};
-ghost use lib.Dec.{leb};
 ghost use Rattle.encoder.specs.Formats.{joined, rFields, iFields, sFields, bFields, uFields, jFields};
-ghost use Rattle.encoder.specs.Encoding.{answerOf, checked, isRegister, isBranch, isJump, lowClear, wordOf, encoding};
+ghost use Rattle.encoder.specs.Encoding.{answerOf, checked, isRegister, isBranch, isJump, isShift, isUpper, wordOf, encoding};
 
 // A word, refusal 22 or refusal 23.
 pub enum Encoded {
@@ -60,7 +59,7 @@ fn is_jump(imm: i32) -> bool
 }
 
 fn is_upper(imm: i32) -> bool
-    ensures { λ r. ⌜ r ≡ lowClear 12 imm ⌝ }
+    ensures { λ r. ⌜ r ≡ isUpper imm ⌝ }
 {
     bits_of_i32(imm) % 4096 == 0
 }
@@ -86,7 +85,7 @@ fn pack_i(opcode: u8, funct3: u8, rd: Register, rs1: Register, fits: bool, imm: 
 }
 
 fn pack_shift(opcode: u8, funct3: u8, funct7: u8, rd: Register, rs1: Register, shamt: u8) -> Encoded
-    ensures { λ r. ⌜ answerOf r ≡ checked (isRegister rd && isRegister rs1) (leb shamt 31) (joined (rFields opcode funct3 funct7 (rd .0) (rs1 .0) shamt)) ⌝ }
+    ensures { λ r. ⌜ answerOf r ≡ checked (isRegister rd && isRegister rs1) (isShift shamt) (joined (rFields opcode funct3 funct7 (rd .0) (rs1 .0) shamt)) ⌝ }
 {
     answer(
         is_register(rd) & is_register(rs1),
@@ -127,7 +126,7 @@ fn pack_j(opcode: u8, rd: Register, fits: bool, imm: u32) -> Encoded
     answer(is_register(rd), fits, j_word(opcode, rd.0, imm))
 }
 
-// The word of a format's fields, or the refusal. An immediate's range is tested, and its bits taken, here and nowhere below.
+// The word of a format's fields, or the refusal. Each immediate's test is chosen here, and its bits are taken; the words are made of bits alone.
 pub fn pack(form: Form) -> Encoded
     ensures { λ r. ⌜ answerOf r ≡ wordOf form ⌝ }
 {

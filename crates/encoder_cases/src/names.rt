@@ -1,4 +1,4 @@
-// The instructions by their names in the list. Each function holds a group of one format: the name is one of the group's, and the
+// The instructions by their names in the list. Each function holds a group whose fields are alike: the name is one of the group's, and the
 // instruction's answer is the expected one.
 use crate::answer::answers;
 use encoder::instruction::Instruction;

@@ -20,7 +20,7 @@ struct Outcome {
     rest: usize,
 }
 
-// A proved loop has to end: with more lines than these the list differs.
+// A proved loop has to end: with so many lines or more the list differs.
 fn replay_all(fd: i32) -> Outcome {
     let mut space = io::large_buffer();
     let block: &mut [u8] = &mut space;

@@ -4,6 +4,9 @@ use numbers::text::find;
 use numbers::text::span_bytes;
 ghost use Prim.Native.Nat.{_≤_};
 ghost use mathlib.Core.Path.{_≡_};
+ghost use mathlib.Core.Bool.{true};
+ghost use lib.IntN.{pos, negsuc};
+ghost use lib.Signed.{ltZ};
 ghost use lib.ListN.{length, take};
 ghost use Rattle.numbers.specs.Text.{spanned};
 ghost use Rattle.replay.specs.Lines.{lineIn, Refilled, NextLine};
@@ -27,8 +30,10 @@ pub enum Step {
     End(usize),
 }
 
-// Opens a list for reading. Where that fails it says why on standard error, and the answer is negative.
-pub fn open(path: &[u8]) -> i32 {
+// Opens a list for reading. Where that fails it says why on standard error, and the answer is -1.
+pub fn open(path: &[u8]) -> i32
+    ensures { λ r. ⌜ (ltZ r (pos 0) ≡ true → r ≡ negsuc 0) ⌝ }
+{
     let fd = os::open_read(path);
     if fd < 0 {
         os::fail(path);

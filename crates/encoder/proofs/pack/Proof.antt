@@ -1,19 +1,13 @@
 -- `pack`: in each arm the format is known, and what the callee ensures is its answer. An immediate was read from its bits, which give
 -- it back, since it fits.
 use mathlib.Core.Path.{_≡_, sym, ap, _∙_}
-use Prim.Native.Nat.{_^_, _<_}
-use lib.IntN.{ℤ}
-use lib.Signed.{mag}
 use mir.Syntax.{w32}
 use mir.Val.{ofZ, toZ}
-use mir.Facts.{toZ-ofZ}
 use Rattle.encoder.specs.Encoding.{wordOf}
 use borrow.Author.Needs.{needs}
+use Rattle.encoder.proofs.Immediates.{back}
 use Rattle.encoder.proofs.pack.Statement.{statement}
 use Rattle.encoder.proofs.pack.Tie as tie
-
-back : (z : ℤ) → mag z < 2 ^ 31 → toZ w32 (ofZ w32 z) ≡ z
-back z h = toZ-ofZ (record { sfits = h })
 
 enum-known-form : tie.Need-enum-known-form
 enum-known-form c = search needs

@@ -1,23 +1,15 @@
 -- `instruction::form_of`: in each arm the instruction is known to be that arm's, at which the table computes. A signed field was
 -- read from its bits, which give it back, since it fits.
 use mathlib.Core.Path.{_≡_, sym, ap}
-use Prim.Native.Nat.{_^_, _<_}
-use lib.IntN.{ℤ}
-use lib.Signed.{mag}
-use mir.Syntax.{w32}
-use mir.Val.{ofZ, toZ}
-use mir.Facts.{toZ-ofZ}
 use Rattle.encoder.specs.declared.instruction.Instruction.{Instruction}
 use Rattle.encoder.specs.Table.{formOf}
+use Rattle.encoder.proofs.Immediates.{back}
 use Rattle.encoder.proofs.instruction.form_of.Statement.{statement}
 use Rattle.encoder.proofs.instruction.form_of.Tie as tie
 
 -- an arm's row of the table
 row : {i j : Instruction} → i ≡ j → formOf j ≡ formOf i
 row e = sym (ap formOf e)
-
-back : (z : ℤ) → mag z < 2 ^ 31 → toZ w32 (ofZ w32 z) ≡ z
-back z h = toZ-ofZ (record { sfits = h })
 
 pub form-of-spec : {M : Type 1} → statement M
 form-of-spec =
