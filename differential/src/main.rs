@@ -7,8 +7,10 @@ mod cases;
 mod encoder;
 mod falcon;
 mod gnu;
+mod layout;
 mod numbers;
 mod random;
+mod sources;
 
 use std::path::Path;
 use std::process::ExitCode;
@@ -18,6 +20,8 @@ use falcon::asm::assembler::assemble;
 
 const USAGE: &str = "usage: differential numbers DIR
        differential encoder DIR
+       differential layout DIR
+       differential layout-answer FILE BASE
        differential assemble FILE...";
 
 fn main() -> ExitCode {
@@ -31,6 +35,8 @@ fn main() -> ExitCode {
         ("encoder", [directory]) => {
             encoder::all_cases().and_then(|text| write_cases(directory, &text))
         }
+        ("layout", [directory]) => write_sources(directory),
+        ("layout-answer", [file, base]) => answer_file(file, base),
         ("assemble", [_, ..]) => rest.iter().try_for_each(|file| assemble_file(file)),
         _ => Err(io::Error::new(io::ErrorKind::InvalidInput, USAGE)),
     };
@@ -45,15 +51,42 @@ fn main() -> ExitCode {
 
 /// Writes the case list `DIR/cases`; the directory is made if it is missing.
 fn write_cases(directory: &str, text: &str) -> io::Result<()> {
+    write_file(directory, "cases", text)
+}
+
+fn write_file(directory: &str, name: &str, text: &str) -> io::Result<()> {
     fs::create_dir_all(directory)?;
-    fs::write(Path::new(directory).join("cases"), text)
+    fs::write(Path::new(directory).join(name), text)
+}
+
+/// Writes `DIR/sources` and prints how many sources got which answer.
+fn write_sources(directory: &str) -> io::Result<()> {
+    let (text, counts) = layout::all_cases();
+    for (answer, count) in counts {
+        println!("{count:6} {answer}");
+    }
+    write_file(directory, "sources", &text)
+}
+
+/// Prints the layout list's answer for one file at a decimal base.
+fn answer_file(file: &str, base: &str) -> io::Result<()> {
+    let source = read_source(file)?;
+    let base = base
+        .parse()
+        .map_err(|error| io::Error::new(io::ErrorKind::InvalidInput, format!("{base}: {error}")))?;
+    println!("{}", layout::answer_line(&source, base));
+    Ok(())
+}
+
+fn read_source(file: &str) -> io::Result<String> {
+    fs::read_to_string(file)
+        .map_err(|error| io::Error::new(error.kind(), format!("{file}: {error}")))
 }
 
 /// Has the reference lay out one file at base 0 and prints what came of it.
 /// The line is counted from 1, as editors count.
 fn assemble_file(file: &str) -> io::Result<()> {
-    let source = fs::read_to_string(file)
-        .map_err(|error| io::Error::new(error.kind(), format!("{file}: {error}")))?;
+    let source = read_source(file)?;
     match assemble(&source, 0) {
         Ok(program) => println!(
             "ok {} {} {}",

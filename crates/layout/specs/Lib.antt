@@ -1,0 +1,10 @@
+pub mod Pieces
+pub mod Statements
+pub mod Pseudos
+pub mod Expressions
+pub mod Directives
+pub mod Stage
+pub mod Addresses
+pub mod Rounds
+pub mod Expansions
+pub mod Layouts

@@ -1,0 +1,2 @@
+// The layout: from a source to words, data, labels, equates and items.
+pub mod line;

@@ -1,0 +1,423 @@
+//! The list for the layout: small sources and what the reference's
+//! `assemble` makes of each.
+//!
+//! A message of the reference becomes a refusal number of document 01. A
+//! source that this paper does not compare is left out, with a reason.
+
+use std::collections::BTreeMap;
+use std::panic::{self, AssertUnwindSafe};
+use std::sync::Mutex;
+
+use crate::cases::escape;
+use crate::falcon::asm::assembler::assemble;
+use crate::falcon::asm::errors::AsmError;
+use crate::falcon::asm::program::Program;
+use crate::falcon::asm::utils::preprocess;
+use crate::sources;
+
+/// What the list says of a source.
+pub enum Answer {
+    /// The fields after `ok`.
+    Laid(String),
+    /// The refusal's number and its line, counted from 0.
+    Refused(u32, usize),
+    /// Not compared, and why.
+    Out(&'static str),
+}
+
+/// How often each answer came, by a short name for it.
+pub type Counts = BTreeMap<String, usize>;
+
+/// The whole file, and the counts of what is in it and what is not.
+pub fn all_cases() -> (String, Counts) {
+    let mut file = String::new();
+    let mut counts = Counts::new();
+    check_errors();
+    silence_panics();
+    for (text, base) in sources::all_sources() {
+        let answer = ask(&text, base);
+        *counts.entry(name_of(&answer)).or_default() += 1;
+        if let Some(fields) = fields(&answer) {
+            file.push_str(&format!("{}\t{base}\t{fields}\n", escape(&text)));
+        }
+    }
+    (file, counts)
+}
+
+/// The lines that are there for a refusal must get it.
+fn check_errors() {
+    for (number, error) in sources::ERRORS {
+        let answer = ask(&error.replace('@', "1"), 0);
+        assert!(
+            matches!(answer, Answer::Refused(given, _) if given == number),
+            "{error}: not {number}"
+        );
+    }
+}
+
+/// The answer for a single source, or the reason why it has none.
+pub fn answer_line(text: &str, base: u32) -> String {
+    silence_panics();
+    let answer = ask(text, base);
+    fields(&answer).unwrap_or_else(|| name_of(&answer))
+}
+
+fn fields(answer: &Answer) -> Option<String> {
+    match answer {
+        Answer::Laid(fields) => Some(format!("ok\t{fields}")),
+        Answer::Refused(number, line) => Some(format!("no\t{number}\t{line}")),
+        Answer::Out(_) => None,
+    }
+}
+
+fn name_of(answer: &Answer) -> String {
+    match answer {
+        Answer::Laid(_) => "ok".into(),
+        Answer::Refused(number, _) => format!("no {number:2}"),
+        Answer::Out(reason) => format!("left out: {reason}"),
+    }
+}
+
+// ---------- asking the reference ----------
+
+/// The file of the last panic.
+static PANICKED_IN: Mutex<String> = Mutex::new(String::new());
+
+/// A panic writes nothing; only the file where it came about is kept.
+fn silence_panics() {
+    panic::set_hook(Box::new(|panic| {
+        if let (Some(place), Ok(mut file)) = (panic.location(), PANICKED_IN.lock()) {
+            *file = place.file().to_string();
+        }
+    }));
+}
+
+/// Puts one source to the reference. Of the state's refusals those are looked
+/// for that a source as small as ours can get: 40, and 42 and 43 at its end.
+pub fn ask(text: &str, base: u32) -> Answer {
+    if base > 0xFF00_0000 {
+        return Answer::Out("added 40");
+    }
+    if text.len() > 65_536 {
+        return Answer::Out("added 41");
+    }
+    if !text.is_ascii() {
+        return Answer::Out("added 1");
+    }
+    match panic::catch_unwind(AssertUnwindSafe(|| assemble(text, base))) {
+        Ok(Ok(program)) => laid(text, &program),
+        Ok(Err(error)) => refused(text, &error),
+        Err(_) => panicked(text),
+    }
+}
+
+/// Why a panic: the pair of a la is formed in `pseudo.rs`; what else is
+/// added up with a check, in a source as small as ours, is an expression.
+fn panicked(text: &str) -> Answer {
+    let in_pseudos = PANICKED_IN
+        .lock()
+        .is_ok_and(|file| file.ends_with("pseudo.rs"));
+    if has_added(text, usize::MAX) {
+        Answer::Out("added 21")
+    } else if in_pseudos {
+        Answer::Out("panic: la address from 0x7FFFF800 to 0x7FFFFFFF")
+    } else {
+        Answer::Out("added 24 (panic)")
+    }
+}
+
+// ---------- a refusal ----------
+
+/// How the messages begin that are given before the pseudos are expanded.
+/// None of them can be the message of an item.
+const MESSAGES: [(&str, u32); 32] = [
+    ("missing section name", 2),
+    ("unknown section: ", 3),
+    ("missing symbol name in .globl/.global", 4),
+    ("expected '.equ name, expr'", 5),
+    ("invalid .align: ", 6),
+    ("invalid align: ", 6),
+    ("invalid .byte: ", 6),
+    ("invalid .half: ", 6),
+    ("invalid .dword: ", 6),
+    ("invalid size: ", 6),
+    ("alignment must be positive: ", 7),
+    ("size must be positive: ", 7),
+    (".byte outside ", 7),
+    (".half outside ", 7),
+    ("invalid .word: ", 8),
+    ("invalid string: ", 9),
+    ("invalid .ascii: ", 9),
+    ("unknown data directive: ", 10),
+    ("unknown .bss directive: ", 11),
+    (".bss does not store explicit data", 12),
+    ("undefined label in .word: ", 13),
+    ("equate redefines existing label: ", 14),
+    ("duplicate equate: ", 15),
+    ("unsupported operator/paren '", 16),
+    ("unexpected character '", 16),
+    ("invalid hex number: ", 16),
+    ("invalid binary number: ", 16),
+    ("invalid number: ", 16),
+    ("empty expression", 16),
+    ("expected term after operator", 16),
+    ("expected '+' or '-'", 16),
+    ("unknown symbol in equate '", 17),
+];
+
+/// The last number that is given while the lines are read, in their order.
+const LAST_OF_LINES: u32 = 12;
+
+fn refused(text: &str, error: &AsmError) -> Answer {
+    if error.msg.starts_with("invalid .float: ") {
+        return Answer::Out("added 21");
+    }
+    let known = MESSAGES.iter().find(|(msg, _)| error.msg.starts_with(msg));
+    let number = match known {
+        Some((_, number)) => *number,
+        None => match item_refusal(text, error) {
+            Some(number) => number,
+            None if has_added(text, usize::MAX) => return Answer::Out("added 21"),
+            None => return Answer::Out("ordinary line refused"),
+        },
+    };
+    let read_lines = match number <= LAST_OF_LINES {
+        true => error.line,
+        false => usize::MAX,
+    };
+    match has_added(text, read_lines) {
+        true => Answer::Out("added 21"),
+        false => Answer::Refused(number, error.line),
+    }
+}
+
+/// The number of a pseudo's message; none for an ordinary line's.
+fn item_refusal(text: &str, error: &AsmError) -> Option<u32> {
+    let statements = statements(text);
+    let found = statements.iter().find(|found| found.line == error.line)?;
+    pseudo_words(&found.text)?;
+    if error.msg.starts_with("label not found: ") {
+        Some(20)
+    } else if error.msg.starts_with("li: ") && error.msg.contains("invalid immediate: ")
+        || error.msg.starts_with("li: invalid character literal: ")
+        || error.msg.starts_with("li: character literal ")
+    {
+        Some(19)
+    } else {
+        let words = ["expected '", "invalid r"];
+        assert!(words.iter().any(|word| error.msg.contains(word)));
+        Some(18)
+    }
+}
+
+// ---------- statements ----------
+
+#[derive(Clone, Copy, PartialEq)]
+enum Section {
+    Text,
+    Data,
+    Bss,
+}
+
+/// What is left of a line after its label, and the section it stands in.
+struct Statement {
+    line: usize,
+    section: Section,
+    text: String,
+}
+
+/// The statements of a source, up to its first bad section name.
+fn statements(text: &str) -> Vec<Statement> {
+    let mut section = Section::Text;
+    let mut found = Vec::new();
+    for (line, raw) in preprocess(text) {
+        if let Some(name) = section_name(&raw) {
+            match section_named(&name) {
+                Some(next) => section = next.unwrap_or(section),
+                None => break,
+            }
+        } else {
+            let text = match raw.split_once(':') {
+                Some((_, rest)) => rest.trim().to_string(),
+                None => raw,
+            };
+            found.push(Statement {
+                line,
+                section,
+                text,
+            });
+        }
+    }
+    found
+}
+
+/// The name in a line that is taken whole.
+fn section_name(line: &str) -> Option<String> {
+    if [".text", ".data", ".bss"].contains(&line) {
+        return Some(line.to_string());
+    }
+    let rest = line.strip_prefix(".section")?.trim();
+    let name = rest.split(|c: char| c.is_whitespace() || c == ',').next();
+    Some(name.unwrap_or("").to_string())
+}
+
+/// The section of that name; `Some(None)` for the name that changes nothing.
+fn section_named(name: &str) -> Option<Option<Section>> {
+    match name.strip_prefix('.').unwrap_or(name) {
+        "text" => Some(Some(Section::Text)),
+        "data" | "rodata" | "sdata" | "srodata" => Some(Some(Section::Data)),
+        "bss" | "sbss" => Some(Some(Section::Bss)),
+        "note.GNU-stack" if name.starts_with('.') => Some(None),
+        _ => None,
+    }
+}
+
+/// Whether a line above the given one gets refusal 21.
+fn has_added(text: &str, before: usize) -> bool {
+    let statements = statements(text);
+    let mut above = statements.iter().filter(|found| found.line < before);
+    above.any(|found| match found.section {
+        Section::Text => is_other_pseudo(&found.text) && !is_assignment(&found.text),
+        Section::Data => found.text.starts_with(".float"),
+        Section::Bss => false,
+    })
+}
+
+fn is_assignment(statement: &str) -> bool {
+    match statement.split_once('=') {
+        Some((name, sum)) => !name.trim().is_empty() && !sum.trim().is_empty(),
+        None => false,
+    }
+}
+
+/// The nine pseudos in every spelling, the words that each becomes (li: one
+/// or two, so 0 here), and whether the name may end its line.
+const PSEUDOS: [(&str, usize, bool); 12] = [
+    ("li", 0, false),
+    ("la", 2, false),
+    ("push", 2, false),
+    ("pop", 2, false),
+    ("print", 3, true),
+    ("print_str", 11, true),
+    ("printStr", 11, true),
+    ("printString", 11, true),
+    ("read", 6, true),
+    ("read_byte", 4, true),
+    ("readByte", 4, true),
+    ("random", 8, true),
+];
+
+/// The four pseudos that document 01 refuses.
+const OTHER_PSEUDOS: [(&str, bool); 8] = [
+    ("print_str_ln", true),
+    ("printStrLn", true),
+    ("read_half", true),
+    ("readHalf", true),
+    ("read_word", true),
+    ("readWord", true),
+    ("random_bytes", false),
+    ("randomBytes", false),
+];
+
+fn begins_with(statement: &str, name: &str, may_end: bool) -> bool {
+    match statement.strip_prefix(name) {
+        Some("") => may_end,
+        Some(rest) => rest.starts_with(' '),
+        None => false,
+    }
+}
+
+fn pseudo_words(statement: &str) -> Option<usize> {
+    let mut pseudos = PSEUDOS.iter();
+    let found = pseudos.find(|(name, _, may_end)| begins_with(statement, name, *may_end));
+    found.map(|(_, words, _)| *words)
+}
+
+fn is_other_pseudo(statement: &str) -> bool {
+    let mut others = OTHER_PSEUDOS.iter();
+    others.any(|(name, may_end)| begins_with(statement, name, *may_end))
+}
+
+// ---------- an accepted source ----------
+
+fn laid(text: &str, program: &Program) -> Answer {
+    if has_added(text, usize::MAX) {
+        return Answer::Out("added 21");
+    }
+    if program.data.len() > 65_536 {
+        return Answer::Out("added 42");
+    }
+    if program.bss_size > 1_048_576 {
+        return Answer::Out("added 43");
+    }
+    let data: String = program.data.iter().map(|b| format!("{b:02X}")).collect();
+    Answer::Laid(format!(
+        "{}\t{data}\t{}\t{}\t{}\t{}",
+        words(text, program),
+        program.data_base,
+        program.bss_size,
+        labels(program),
+        items(program)
+    ))
+}
+
+/// The text words; an ordinary line's is a hyphen.
+fn words(text: &str, program: &Program) -> String {
+    let statements = statements(text);
+    let mut left = program.text.as_slice();
+    let mut fields = Vec::new();
+    for (line, _) in in_text_order(program) {
+        let found = statements.iter().find(|found| found.line == line);
+        let found = found.expect("an item's statement");
+        match pseudo_words(&found.text) {
+            None => {
+                fields.push("-".to_string());
+                left = &left[1..];
+            }
+            Some(count) => {
+                let count = if count == 0 { li_words(left[0]) } else { count };
+                fields.extend(left[..count].iter().map(|word| format!("{word:08X}")));
+                left = &left[count..];
+            }
+        }
+    }
+    assert!(left.is_empty(), "a word without an item");
+    fields.join(",")
+}
+
+/// Of a li's words the first is a lui if there are two.
+fn li_words(first: u32) -> usize {
+    match first & 0x7F {
+        0x37 => 2,
+        _ => 1,
+    }
+}
+
+fn in_text_order(program: &Program) -> BTreeMap<usize, u32> {
+    let items = program.line_addrs.iter();
+    items.map(|(line, address)| (*line, *address)).collect()
+}
+
+fn items(program: &Program) -> String {
+    let items = in_text_order(program).into_iter();
+    let items = items.map(|(line, address)| format!("{address}@{line}"));
+    items.collect::<Vec<_>>().join(",")
+}
+
+fn labels(program: &Program) -> String {
+    let by_address: BTreeMap<_, _> = program.labels.iter().collect();
+    let mut fields = Vec::new();
+    for (address, names) in by_address {
+        for name in names {
+            let line = program.label_to_line[name];
+            fields.push(format!("{}@{address}@{line}", escape_name(name)));
+        }
+    }
+    fields.join(",")
+}
+
+/// A label's name as a part of a field: the bytes that part names and
+/// numbers are escaped too.
+fn escape_name(name: &str) -> String {
+    escape(name).replace(',', "%2C").replace('@', "%40")
+}
