@@ -1,1 +1,2 @@
 pub mod TwelveCases
+pub mod Inside
