@@ -8,11 +8,13 @@ use native.Mathlib.Numerals.{add-one}
 use lib.Dec.{eqb}
 use lib.ListN.{length, take, drop, length-append, length-drop}
 use lib.Seq.{length-take-le, drop-drop, drop-append-add, drop-append-seam}
+use borrow.Author.Tests.{ltb-true}
 use Rattle.numbers.specs.declared.text.Span.{Span}
 use Rattle.numbers.specs.Text.{leadingSpaces, trimmed, trimSpan, spanned, indexOf, before, uncommented}
 use Rattle.numbers.proofs.Trims.{trim-span-text, trim-span-within, span-front, tail}
 use Rattle.numbers.proofs.Places.{index-within}
-use Rattle.layout.specs.Pieces.{Piece, piece, trimPiece, fromByte, pieceBefore, statementOf, consLine, lines, linePieces}
+use Rattle.layout.specs.Pieces.{Piece, piece, trimPiece, fromByte, holds, pieceBefore, pieceAfter, statementOf, consLine, lines, linePieces}
+use Rattle.layout.proofs.Each.{Each}
 
 -- the text has the piece's bytes where it starts
 pub record Inside (t : List ℕ) (p : Piece) : Type 0 where
@@ -44,22 +46,22 @@ trim-inside t p g =
 pub from-inside : (t : List ℕ) (p : Piece) (n : ℕ) → n ≤ length (p .bytes) → Inside t p → Inside t (fromByte n p)
 from-inside t p n h g = rw (← tail (p .bytes) n) (part-inside t p n (length (p .bytes) - n) g (omega (arith, h)))
 
--- before the first b
+-- its first n bytes
+pub first-inside : (t : List ℕ) (p : Piece) (n : ℕ) → n ≤ length (p .bytes) → Inside t p → Inside t (piece (p .at) (take n (p .bytes)))
+first-inside t p n h g = let e : p .at + 0 ≡ p .at = omega arith in rw (← e) (part-inside t p 0 n g (omega (arith, h)))
+
+-- before the first b, and after it
 pub before-inside : (t : List ℕ) (p : Piece) (b : ℕ) → Inside t p → Inside t (pieceBefore b p)
 unfolding before
-before-inside t p b g =
-    let e : p .at + 0 ≡ p .at = omega arith in
-    rw (← e) (part-inside t p 0 (indexOf b (p .bytes)) g (omega (arith, index-within b (p .bytes))))
+before-inside t p b = first-inside t p (indexOf b (p .bytes)) (index-within b (p .bytes))
+
+pub after-inside : (t : List ℕ) (p : Piece) (b : ℕ) → holds b p ≡ true → Inside t p → Inside t (pieceAfter b p)
+after-inside t p b h = from-inside t p (suc (indexOf b (p .bytes))) (ltb-true _ _ h)
 
 -- a line's statement
 pub statement-inside : (t : List ℕ) (l : Piece) → Inside t l → Inside t (statementOf l)
 unfolding uncommented
 statement-inside t l g = trim-inside t _ (before-inside t _ _ (before-inside t l _ g))
-
--- each of the pieces lies within the text
-abbrev pub EachInside : List ℕ → List Piece → Type 0
-EachInside t [] = Unit
-EachInside t (p ∷ ps) = Inside t p × EachInside t ps
 
 module _ (u : List ℕ) (b : ℕ) (bs : List ℕ) where
   -- a piece of what comes after u
@@ -76,11 +78,11 @@ module _ (u : List ℕ) (b : ℕ) (bs : List ℕ) where
       front-inside (b ∷ l) (omega (arith, w)) (ap (λ (r : List ℕ). b ∷ r) (ap (take (length l)) (sym after-byte) ∙ g .is))
 
 -- the same places, the same pieces
-same-place : (t : List ℕ) (ls : List (List ℕ)) (m n : ℕ) → m ≡ n → EachInside t (linePieces m ls) → EachInside t (linePieces n ls)
-same-place t ls m n e = transport (ap (λ (k : ℕ). EachInside t (linePieces k ls)) e)
+same-place : (t : List ℕ) (ls : List (List ℕ)) (m n : ℕ) → m ≡ n → Each (Inside t) (linePieces m ls) → Each (Inside t) (linePieces n ls)
+same-place t ls m n e = transport (ap (λ (k : ℕ). Each (Inside t) (linePieces k ls)) e)
 
 -- the lines of s, where u stands before it
-lines-after : (u s : List ℕ) → EachInside (u ++ s) (linePieces (length u) (lines s))
+lines-after : (u s : List ℕ) → Each (Inside (u ++ s)) (linePieces (length u) (lines s))
 unfolding lines linePieces
 lines-after u [] = tt
 lines-after u (b ∷ bs) = go (eqb b 10) (lines bs) (later (lines-after (u ++ (b ∷ [])) bs))
@@ -88,17 +90,17 @@ lines-after u (b ∷ bs) = go (eqb b 10) (lines bs) (later (lines-after (u ++ (b
     t : List ℕ
     t = u ++ (b ∷ bs)
 
-    later : EachInside ((u ++ (b ∷ [])) ++ bs) (linePieces (length (u ++ (b ∷ []))) (lines bs)) → EachInside t (linePieces (suc (length u)) (lines bs))
+    later : Each (Inside ((u ++ (b ∷ [])) ++ bs)) (linePieces (length (u ++ (b ∷ []))) (lines bs)) → Each (Inside t) (linePieces (suc (length u)) (lines bs))
     later h =
         let more : length (u ++ (b ∷ [])) ≡ suc (length u) = length-append u (b ∷ []) ∙ add-one (length u) in
-        same-place t (lines bs) _ _ more (transport (ap (λ (v : List ℕ). EachInside v (linePieces (length (u ++ (b ∷ []))) (lines bs))) (append-assoc u (b ∷ []) bs)) h)
+        same-place t (lines bs) _ _ more (transport (ap (λ (v : List ℕ). Each (Inside v) (linePieces (length (u ++ (b ∷ []))) (lines bs))) (append-assoc u (b ∷ []) bs)) h)
 
-    go : (c : Bool) (ls : List (List ℕ)) → EachInside t (linePieces (suc (length u)) ls)
-        → EachInside t (linePieces (length u) (cond c ([] ∷ ls) (consLine b ls)))
+    go : (c : Bool) (ls : List (List ℕ)) → Each (Inside t) (linePieces (suc (length u)) ls)
+        → Each (Inside t) (linePieces (length u) (cond c ([] ∷ ls) (consLine b ls)))
     go true ls h = (front-inside u b bs [] (omega arith) refl, same-place t ls _ _ (omega arith) h)
     go false [] h = (front-inside u b bs (b ∷ []) (omega arith) refl, tt)
     go false (l ∷ ls) h = (cons-inside u b bs l (h .0), same-place t ls _ _ (omega arith) (h .1))
 
 -- every line of the text is a piece of it
-pub lines-inside : (t : List ℕ) → EachInside t (linePieces 0 (lines t))
+pub lines-inside : (t : List ℕ) → Each (Inside t) (linePieces 0 (lines t))
 lines-inside t = lines-after [] t

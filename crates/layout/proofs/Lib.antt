@@ -1,2 +1,4 @@
 pub mod TwelveCases
+pub mod Each
 pub mod Inside
+pub mod Kept

@@ -1,0 +1,27 @@
+-- A property of every element of a list.
+use mathlib.Core.List.{List, [], _∷_, _++_, map}
+use mathlib.Core.Bool.{Bool, true, false, cond}
+
+module _ {A : Type 0} where
+  abbrev pub Each : (A → Type 0) → List A → Type 0
+  Each P [] = Unit
+  Each P (x ∷ xs) = P x × Each P xs
+
+  -- what every element has, and more elements that have it
+  pub each-append : (P : A → Type 0) (xs ys : List A) → Each P xs → Each P ys → Each P (xs ++ ys)
+  each-append P [] ys g h = h
+  each-append P (x ∷ xs) ys g h = (g .0, each-append P xs ys (g .1) h)
+
+  -- what follows from a property
+  pub each-weaker : (P Q : A → Type 0) → ((x : A) → P x → Q x) → (xs : List A) → Each P xs → Each Q xs
+  each-weaker P Q f [] g = tt
+  each-weaker P Q f (x ∷ xs) g = (f x (g .0), each-weaker P Q f xs (g .1))
+
+  -- both ways of a test have it
+  pub cond-has : (P : A → Type 0) (c : Bool) (x y : A) → P x → P y → P (cond c x y)
+  cond-has P true x y g h = g
+  cond-has P false x y g h = h
+
+pub each-map : {A B : Type 0} (P : A → Type 0) (Q : B → Type 0) (f : A → B) → ((x : A) → P x → Q (f x)) → (xs : List A) → Each P xs → Each Q (map f xs)
+each-map P Q f h [] g = tt
+each-map P Q f h (x ∷ xs) g = (h x (g .0), each-map P Q f h xs (g .1))
