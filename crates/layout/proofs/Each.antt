@@ -1,4 +1,5 @@
 -- A property of every element of a list.
+use mathlib.Core.Logic.{_⊎_, inl, inr}
 use mathlib.Core.List.{List, [], _∷_, _++_, map}
 use mathlib.Core.Bool.{Bool, true, false, cond}
 
@@ -25,3 +26,18 @@ module _ {A : Type 0} where
 pub each-map : {A B : Type 0} (P : A → Type 0) (Q : B → Type 0) (f : A → B) → ((x : A) → P x → Q (f x)) → (xs : List A) → Each P xs → Each Q (map f xs)
 each-map P Q f h [] g = tt
 each-map P Q f h (x ∷ xs) g = (h x (g .0), each-map P Q f h xs (g .1))
+
+-- a property of one element at least
+module _ {A : Type 0} where
+  abbrev pub Some : (A → Type 0) → List A → Type 0
+  Some P [] = ⊥
+  Some P (x ∷ xs) = P x ⊎ Some P xs
+
+  -- an element that has both what every element has and what one has
+  pub each-some : (P Q : A → Type 0) (xs : List A) → Each P xs → Some Q xs → (x : A) × P x × Q x
+  each-some P Q [] g s = absurd s
+  each-some P Q (x ∷ xs) g s = by s (each-some P Q xs (g .1))
+    where
+      by : Q x ⊎ Some Q xs → (Some Q xs → (x : A) × P x × Q x) → (x : A) × P x × Q x
+      by (inl q) more = (x, g .0, q)
+      by (inr s) more = more s

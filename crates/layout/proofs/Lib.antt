@@ -2,3 +2,4 @@ pub mod TwelveCases
 pub mod Each
 pub mod Inside
 pub mod Kept
+pub mod Ending
