@@ -27,6 +27,10 @@ pub each-map : {A B : Type 0} (P : A → Type 0) (Q : B → Type 0) (f : A → B
 each-map P Q f h [] g = tt
 each-map P Q f h (x ∷ xs) g = (h x (g .0), each-map P Q f h xs (g .1))
 
+pub each-mapped : {A B : Type 0} (Q : B → Type 0) (f : A → B) (xs : List A) → Each Q (map f xs) → Each (λ x. Q (f x)) xs
+each-mapped Q f [] g = tt
+each-mapped Q f (x ∷ xs) g = (g .0, each-mapped Q f xs (g .1))
+
 -- a property of one element at least
 module _ {A : Type 0} where
   abbrev pub Some : (A → Type 0) → List A → Type 0

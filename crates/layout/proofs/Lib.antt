@@ -3,3 +3,5 @@ pub mod Each
 pub mod Inside
 pub mod Kept
 pub mod Ending
+pub mod Emissions
+pub mod Fields
