@@ -4,7 +4,7 @@
 //! A message of the reference becomes a refusal number of document 01. A
 //! source that this paper does not compare is left out, with a reason.
 
-use std::collections::BTreeMap;
+use std::collections::{BTreeMap, BTreeSet};
 use std::panic::{self, AssertUnwindSafe};
 use std::sync::Mutex;
 
@@ -34,7 +34,7 @@ pub fn all_cases() -> (String, Counts) {
     let mut counts = Counts::new();
     check_errors();
     silence_panics();
-    for (text, base) in sources::all_sources() {
+    for (text, base) in sources::built(&sources::BUILDERS) {
         let answer = ask(&text, base);
         *counts.entry(name_of(&answer)).or_default() += 1;
         if let Some(fields) = fields(&answer) {
@@ -42,6 +42,57 @@ pub fn all_cases() -> (String, Counts) {
         }
     }
     (file, counts)
+}
+
+/// Of each builder's sources that got one answer, one in so many is in the
+/// list for the line stage.
+const ONE_IN: usize = 8;
+
+/// The same for refusals that come later: the line stage only goes through.
+const ONE_LATER_IN: usize = 40;
+
+/// The list for the line stage: a selection of the sources, the given texts
+/// behind them, and the counts of what is in it.
+pub fn stage_cases(texts: &[String]) -> (String, Counts) {
+    let mut file = String::new();
+    let mut counts = Counts::new();
+    check_errors();
+    silence_panics();
+    let mut chosen = BTreeSet::new();
+    for builder in sources::BUILDERS {
+        chosen.extend(stage_sources(builder));
+    }
+    let whole = sources::built(&sources::WHOLE).into_iter();
+    chosen.extend(whole.map(|(text, base)| (text.len(), text, base)));
+    let chosen = chosen.into_iter().map(|(_, text, base)| (text, base));
+    let texts = texts.iter().map(|text| (text.clone(), 0));
+    for (text, base) in chosen.chain(texts) {
+        let answer = ask(&text, base);
+        *counts.entry(name_of(&answer)).or_default() += 1;
+        let fields = fields(&answer).expect("an answer that is compared");
+        file.push_str(&format!("{}\t{base}\t{fields}\n", escape(&text)));
+    }
+    (file, counts)
+}
+
+/// The first of a builder's sources for each answer, and then one in so many.
+fn stage_sources(builder: sources::Builder) -> Vec<(usize, String, u32)> {
+    let mut counts = Counts::new();
+    let mut chosen = Vec::new();
+    for (text, base) in sources::built(&[builder]) {
+        let answer = ask(&text, base);
+        let one_in = match answer {
+            Answer::Out(_) => continue,
+            Answer::Refused(number, _) if number > LAST_OF_LINES => ONE_LATER_IN,
+            _ => ONE_IN,
+        };
+        let count = counts.entry(name_of(&answer)).or_default();
+        if count.is_multiple_of(one_in) {
+            chosen.push((text.len(), text, base));
+        }
+        *count += 1;
+    }
+    chosen
 }
 
 /// The lines that are there for a refusal must get it.

@@ -21,6 +21,7 @@ use falcon::asm::assembler::assemble;
 const USAGE: &str = "usage: differential numbers DIR
        differential encoder DIR
        differential layout DIR
+       differential layout-stage DIR FILE...
        differential layout-answer FILE BASE
        differential assemble FILE...";
 
@@ -36,6 +37,7 @@ fn main() -> ExitCode {
             encoder::all_cases().and_then(|text| write_cases(directory, &text))
         }
         ("layout", [directory]) => write_sources(directory),
+        ("layout-stage", [directory, files @ ..]) => write_stage(directory, files),
         ("layout-answer", [file, base]) => answer_file(file, base),
         ("assemble", [_, ..]) => rest.iter().try_for_each(|file| assemble_file(file)),
         _ => Err(io::Error::new(io::ErrorKind::InvalidInput, USAGE)),
@@ -62,10 +64,22 @@ fn write_file(directory: &str, name: &str, text: &str) -> io::Result<()> {
 /// Writes `DIR/sources` and prints how many sources got which answer.
 fn write_sources(directory: &str) -> io::Result<()> {
     let (text, counts) = layout::all_cases();
+    print_counts(counts);
+    write_file(directory, "sources", &text)
+}
+
+/// Writes the line stage's list, with the files' texts at its end.
+fn write_stage(directory: &str, files: &[String]) -> io::Result<()> {
+    let texts: io::Result<Vec<String>> = files.iter().map(|file| read_source(file)).collect();
+    let (text, counts) = layout::stage_cases(&texts?);
+    print_counts(counts);
+    write_cases(directory, &text)
+}
+
+fn print_counts(counts: layout::Counts) {
     for (answer, count) in counts {
         println!("{count:6} {answer}");
     }
-    write_file(directory, "sources", &text)
 }
 
 /// Prints the layout list's answer for one file at a decimal base.

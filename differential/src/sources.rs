@@ -12,25 +12,38 @@ const WHITE: [&str; 5] = ["\t", "\x0B", "\x0C", "\r", " "];
 const SECTIONS: [&str; 3] = [".text", ".data", ".bss"];
 
 /// Sources without duplicates: the shorter first, then by bytes and base.
-struct Sources {
+pub struct Sources {
     found: BTreeSet<(usize, String, u32)>,
 }
 
-pub fn all_sources() -> Vec<(String, u32)> {
+/// What puts sources of one kind among the others.
+pub type Builder = fn(&mut Sources);
+
+pub const BUILDERS: [Builder; 11] = [
+    add_paper,
+    add_lines,
+    add_sections,
+    add_directives,
+    add_labels,
+    add_equates,
+    add_expressions,
+    add_data,
+    add_items,
+    add_errors,
+    add_random,
+];
+
+/// Builders whose sources are all in the list for the line stage.
+pub const WHOLE: [Builder; 2] = [add_name_edges, add_good_pseudos];
+
+/// The sources of some builders, in the list's order.
+pub fn built(builders: &[Builder]) -> Vec<(String, u32)> {
     let mut sources = Sources {
         found: BTreeSet::new(),
     };
-    add_paper(&mut sources);
-    add_lines(&mut sources);
-    add_sections(&mut sources);
-    add_directives(&mut sources);
-    add_labels(&mut sources);
-    add_equates(&mut sources);
-    add_expressions(&mut sources);
-    add_data(&mut sources);
-    add_items(&mut sources);
-    add_errors(&mut sources);
-    add_random(&mut sources, &mut Random::new(0x4C61_796F_7574_2121));
+    for builder in builders {
+        builder(&mut sources);
+    }
     let found = sources.found.into_iter();
     found.map(|(_, text, base)| (text, base)).collect()
 }
@@ -1222,6 +1235,15 @@ fn add_label_words(sources: &mut Sources) {
     }
 }
 
+/// Bytes at both sides of each edge of what a name may hold, as a `.word`'s
+/// first byte and as a later one. They are in the line stage's list alone.
+fn add_name_edges(sources: &mut Sources) {
+    for byte in "@AZ[^_`az{/09:-.$".chars() {
+        sources.add(&format!(".data\ny: .word {byte}\n"));
+        sources.add(&format!(".data\ny: .word x, x{byte}\n"));
+    }
+}
+
 // ---------- items ----------
 
 /// Each spelling, and its operands in a good line.
@@ -1335,6 +1357,13 @@ fn add_pseudo_lines(sources: &mut Sources) {
         for label in ["x y", "a0", "x32", "X", "-x", "."] {
             sources.add(&format!("{name} {label}\n{label}: {name} a0, {label}\n"));
         }
+    }
+    add_good_pseudos(sources);
+}
+
+/// Every pseudo in a good line, and labels that show how much it reserves.
+fn add_good_pseudos(sources: &mut Sources) {
+    for (name, good) in PSEUDOS {
         sources.add(&format!("x: nop\n{name} {good}\ny: {name} {good}\nz:\n"));
     }
 }
@@ -1553,7 +1582,8 @@ const LINES: [&str; 54] = [
 /// Lines that make most sources go through: every label and name is there.
 const DEFINED: &str = ".bss\na: .space 3\nb:\n.text\nc: nop\n";
 
-fn add_random(sources: &mut Sources, random: &mut Random) {
+fn add_random(sources: &mut Sources) {
+    let mut random = Random::new(0x4C61_796F_7574_2121);
     for round in 0..500 {
         let mut text = String::new();
         for _ in 0..3 + random.below(9) {

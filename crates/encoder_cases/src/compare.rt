@@ -16,9 +16,9 @@ use numbers::digits::parse_digits;
 use numbers::imm::Imm;
 use numbers::imm::parse_imm;
 use numbers::registers::Register;
-use numbers::text::find;
 use numbers::text::same_bytes;
-use numbers::text::text_before;
+use replay::field::after_field;
+use replay::field::field;
 
 // A register's number, or a shift.
 enum Small {
@@ -31,20 +31,6 @@ fn byte(field: &[u8]) -> Small {
         Digits::Value(n) => Small::Is(n as u8),
         Digits::Invalid => Small::Nothing,
     }
-}
-
-// The field before the first TAB.
-fn field(s: &[u8]) -> &[u8] {
-    text_before(s, b'\t')
-}
-
-// What follows the first TAB, or nothing.
-fn after_field(s: &[u8]) -> &[u8] {
-    let end = find(s, b'\t');
-    if end == s.len() {
-        return &s[..0];
-    }
-    &s[end + 1..]
 }
 
 fn registers_agree(

@@ -27,7 +27,8 @@ use Rattle.layout.specs.declared.line.Pseudo.the-variants.{Li, La, Push,
 use Rattle.layout.specs.Pseudos.{pseudoOperands, liNumber, liWords, pseudoWords, reservedWords}
 use Rattle.layout.specs.Expansions.{Expanded, instructions, refusedBy, onRegister, oneOperand, twoOperands, onLabel, noRegister, liConstant, onNumber, liLoad, expansion}
 use Rattle.layout.specs.Layouts.{Emission, emits, refuses, onAnswer, encoded, onExpanded, emission}
-use Rattle.layout.proofs.Each.{Each, cond-has}
+use Rattle.layout.specs.Limits.{Each}
+use Rattle.layout.proofs.Each.{cond-has}
 
 abbrev pub IsWord : ℕ → Type 0
 IsWord w = w < 2 ^ 32

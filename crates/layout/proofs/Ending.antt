@@ -16,7 +16,8 @@ use Rattle.numbers.proofs.Bools.{none-some}
 use Rattle.layout.specs.Expressions.{plus, minus, unreadable, isBlank, isDigit, isNameByte, isNumberByte, Scanned, numberToken, nameToken, scan, tokensIn, tokens, Evaluated, value, waits, refused}
 use Rattle.layout.specs.Stage.{State, Equate}
 use Rattle.layout.specs.Rounds.{Found, Known, pendingEquate, turn, Round, through, stopped, afterTurn, passOne, pass, pendingCount, firstPending, rounds}
-use Rattle.layout.proofs.Each.{Each, Some}
+use Rattle.layout.specs.Limits.{Each}
+use Rattle.layout.proofs.Each.{Some}
 
 -- what holds where a round goes through, and of the line where it stops
 abbrev pub Comes : (List Known → ℕ → Type 0) → (ℕ → Type 0) → Round → Type 0

@@ -27,10 +27,10 @@ use Rattle.layout.specs.Expressions.{Token, plus, minus, dot, number, na
 use Rattle.layout.specs.Rounds.{Known, pendingEquate, constant, look, isSome, turn, Round, through, stopped, rounds}
 use Rattle.layout.specs.Layouts.{EquateAt, ItemAt, Layout, Outcome, accepted, Emission, emits, refuses, emission, Emitted, emitted, halted, emitOne, emit, foundEquates, finish, afterRounds, afterFill, afterLines, highByte, afterBytes, layoutOf, labelRecord, equateRecord, itemRecord, Buffers, padded, together, buffersOf}
 use Rattle.layout.specs.Layouts as lay
-use Rattle.layout.proofs.Each.{Each, each-append, each-weaker, each-map, each-mapped, each-some}
-use Rattle.layout.proofs.Inside.{Inside}
+use Rattle.layout.specs.Limits.{Inside, Each, limit, LabelFits, EquateFits, ItemFits, LabelWordFits, Fits, reservedIn}
+use Rattle.layout.proofs.Each.{each-append, each-weaker, each-map, each-mapped, each-some}
 use Rattle.layout.proofs.Emissions.{IsWord, EmissionFits, emission-fits}
-use Rattle.layout.proofs.Kept.{limit, LabelFits, EquateFits, ItemFits, LabelWordFits, Fits, MoveFits, reservedIn, stage-fits}
+use Rattle.layout.proofs.Kept.{MoveFits, stage-fits}
 use Rattle.layout.proofs.Ending.{Comes, AtLine, Resolved, Ended, triangle, pending-all, equates-all, all-end}
 
 -- ---- labels in order

@@ -14,12 +14,7 @@ use Rattle.numbers.specs.Text.{leadingSpaces, trimmed, trimSpan, spanned, index
 use Rattle.numbers.proofs.Trims.{trim-span-text, trim-span-within, span-front, tail}
 use Rattle.numbers.proofs.Places.{index-within}
 use Rattle.layout.specs.Pieces.{Piece, piece, trimPiece, fromByte, holds, pieceBefore, pieceAfter, statementOf, consLine, lines, linePieces}
-use Rattle.layout.proofs.Each.{Each}
-
--- the text has the piece's bytes where it starts
-pub record Inside (t : List ℕ) (p : Piece) : Type 0 where
-  pub within : p .at + length (p .bytes) ≤ length t
-  pub is : take (length (p .bytes)) (drop (p .at) t) ≡ p .bytes
+use Rattle.layout.specs.Limits.{Each, Inside}
 
 -- n bytes of a piece, from its ath on, are a piece of the text
 pub part-inside : (t : List ℕ) (p : Piece) (a n : ℕ) → Inside t p → a + n ≤ length (p .bytes) → Inside t (piece (p .at + a) (take n (drop a (p .bytes))))

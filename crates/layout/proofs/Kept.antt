@@ -6,21 +6,23 @@ use mathlib.Core.Bool.{Bool, true, false, cond, not, _&&_, _||_, true≢false, f
 use mathlib.Core.Option.{Option, none, some}
 use native.Mathlib.Omega.{arith}
 use lib.Dec.{eqb, ltb, leb}
-use lib.ListN.{length, take, replicate, length-append, length-replicate}
+use lib.ListN.{length, take, drop, replicate, length-append, length-replicate}
 use borrow.Author.Tests.{ltb-true, leb-true}
-use Rattle.numbers.specs.Text.{text, byte, isSpace, startsWith, same}
+use Rattle.numbers.specs.Text.{text, byte, isSpace, trimmed, startsWith, same}
 use Rattle.numbers.proofs.Bools.{and-left, and-right}
 use Rattle.numbers.proofs.Prefixes.{prefix-length}
 use Rattle.layout.specs.declared.line.Section.{Section}
 use Rattle.layout.specs.declared.line.Section.the-variants as section
 use Rattle.layout.specs.declared.line.Pseudo.{Pseudo}
 use Rattle.layout.specs.Pieces.{Piece, piece, trimPiece, fromByte, holds, pieceBefore, pieceAfter, isEmpty, statementOf, consLine, lines, linePieces}
-use Rattle.layout.specs.Statements.{Expression, Statement, nothing, enters, equate, own, refused, startsWithAny, countBefore, isOneOf, sectionNamed, withoutDot, sectionOf, sectionName, isSectionLine, sectionLine, global, ignored, equateOf, equOf, assignment, unlabelled, Line, labelled, lineOf}
+use Rattle.layout.specs.Statements.{Expression, Statement, nothing, enters, equate, own, refused, startsWithAny, countBefore, isOneOf, sectionNamed, withoutDot, sectionOf, sectionName, isSectionLine, sectionLine, globals, symbolAfter, globalOf, ignored, equateOf, equOf, assignmentOf, unlabelledOf, Line, labelled, lineOf}
 use Rattle.layout.specs.Pseudos.{Item, ordinary, pseudo, other, itemOf, reservedWords}
 use Rattle.layout.specs.Directives.{Write, stores, zeros, aligns, addressOf, wrong, dataWrites, bssWrite, aligned}
-use Rattle.layout.specs.Stage.{Lent, Label, Equate, ItemLine, LabelWord, State, Move, go, stop, andThen, start, here, offsetIn, inSection, withImage, withBss, withLabels, withEquate, withItem, withLabelWord, isLabel, recorded, addLabel, addEquate, addItem, textLine, addData, append, addLabelWord, dataWrite, dataLine, growBss, bssLine, ownLine, says, stepLine, lineStage}
-use Rattle.layout.proofs.Each.{Each, each-append, each-weaker, cond-has}
-use Rattle.layout.proofs.Inside.{Inside, trim-inside, from-inside, first-inside, before-inside, after-inside, statement-inside, lines-inside}
+use Rattle.layout.specs.Stage.{Lent, Label, Equate, ItemLine, LabelWord, State, Move, go, stop, andThen, start, here, offsetIn, inSection, withImage, withBss, withLabels, withEquate, withItem, withLabelWord, isLabel, recorded, addLabel, addEquate, addItem, textLine, addData, append, addLabelWord, dataWrite, dataLine, growBss, bssLine, ownLine, says, stepStatement, stepLine, lineStage}
+use Rattle.layout.specs.Limits.{Each, Inside, limit, LabelFits, EquateFits, ItemFits, LabelWordFits, reservedIn, LabelsFit, EquatesFit, ItemsFit, ImageFits, Fits}
+use Rattle.layout.proofs.Each.{each-append, each-weaker, cond-has}
+use Rattle.layout.proofs.Parted.{count-within}
+use Rattle.layout.proofs.Inside.{trim-inside, from-inside, first-inside, before-inside, after-inside, statement-inside, lines-inside}
 
 -- ---- a line's label and operands
 
@@ -39,11 +41,6 @@ pub data StatementInside (t : List ℕ) : Statement → Type 0 where
 pub record LineInside (t : List ℕ) (l : Line) : Type 0 where
   pub label : LabelInside t (l .label)
   pub says : StatementInside t (l .says)
-
-count-within : (test : ℕ → Bool) (s : List ℕ) → countBefore test s ≤ length s
-unfolding countBefore
-count-within test [] = omega arith
-count-within test (x ∷ xs) = cond-has (λ (n : ℕ). n ≤ suc (length xs)) (test x) 0 (suc (countBefore test xs)) (omega arith) (omega (arith, count-within test xs))
 
 -- a text that begins with one of some texts of one length is at least as long
 any-length : (n : ℕ) (ps : List (List ℕ)) (s : List ℕ) → Each (λ p. length p ≡ n) ps → startsWithAny ps s ≡ true → n ≤ length s
@@ -96,8 +93,8 @@ module _ (t : List ℕ) where
           let w = count-within isSpace (p .bytes) in
           equating _ _ true (first-inside t p n w g) (trim-inside t _ (from-inside t p n w g))
 
-  assignment-inside : (p : Piece) → Inside t p → StatementInside t (assignment p)
-  unfolding assignment
+  assignment-inside : (p : Piece) → Inside t p → StatementInside t (assignmentOf p)
+  unfolding assignmentOf
   assignment-inside p g = by (isPlain && holds (byte "=") p && left && right) refl
     where
       isPlain : Bool
@@ -114,11 +111,11 @@ module _ (t : List ℕ) where
       by true h = parted p (byte "=") (and-right isPlain _ (and-left _ left (and-left _ right h))) g
       by false h = own-inside g
 
-  pub unlabelled-inside : (p : Piece) → Inside t p → StatementInside t (unlabelled p)
-  unfolding unlabelled global startsWithAny
+  pub unlabelled-inside : (p : Piece) → Inside t p → StatementInside t (unlabelledOf p)
+  unfolding unlabelledOf globalOf symbolAfter startsWithAny
   unlabelled-inside p g =
       either (isEmpty p) _ _ nothing-there
-      (either (begins (text ".globl" ∷ text ".global" ∷ [])) _ _ (either (isEmpty (trimPiece (fromByte after p))) _ _ refusal-there nothing-there)
+      (either (begins globals) _ _ (either (eqb (length (trimmed (drop after (p .bytes)))) 0) _ _ refusal-there nothing-there)
       (either (begins ignored) _ _ nothing-there
       (by (begins equs) refl)))
     where
@@ -131,7 +128,7 @@ module _ (t : List ℕ) where
       equs : List (List ℕ)
       equs = text ".equ" ∷ text ".set" ∷ []
 
-      by : (c : Bool) → begins equs ≡ c → StatementInside t (cond c (equOf (trimPiece (fromByte 4 p))) (assignment p))
+      by : (c : Bool) → begins equs ≡ c → StatementInside t (cond c (equOf (trimPiece (fromByte 4 p))) (assignmentOf p))
       by true h = equ-inside _ (trim-inside t _ (from-inside t p 4 (any-length 4 equs (p .bytes) (refl, (refl, tt)) h) g))
       by false h = assignment-inside p g
 
@@ -141,9 +138,9 @@ module _ (t : List ℕ) where
   line-inside p g = by (isSectionLine (p .bytes)) (startsWith (text ".section") (p .bytes)) (holds (byte ":") p) refl
     where
       by : (a b c : Bool) → holds (byte ":") p ≡ c → LineInside t
-          (cond a (record { label = none; says = cond b (sectionOf (sectionName (trimPiece (fromByte 8 p) .bytes))) (sectionOf (p .bytes)) })
-          (cond c (record { label = some (trimPiece (pieceBefore (byte ":") p)); says = unlabelled (trimPiece (pieceAfter (byte ":") p)) })
-          (record { label = none; says = unlabelled p })))
+          (cond a (record { label = none; says = cond b (sectionOf (sectionName (trimmed (drop 8 (p .bytes))))) (sectionOf (p .bytes)) })
+          (cond c (record { label = some (trimPiece (pieceBefore (byte ":") p)); says = unlabelledOf (trimPiece (pieceAfter (byte ":") p)) })
+          (record { label = none; says = unlabelledOf p })))
       by true true c h = record { label = unnamed; says = section-inside _ }
       by true false c h = record { label = unnamed; says = section-inside _ }
       by false b true h =
@@ -151,68 +148,6 @@ module _ (t : List ℕ) where
       by false b false h = record { label = unnamed; says = unlabelled-inside p g }
 
 -- ---- what has been laid out
-
--- the most bytes that a section holds
-abbrev pub limit : Section → ℕ
-limit section.Text = 65536
-limit section.Data = 65536
-limit section.Bss = 1048576
-
-pub record LabelFits (t : List ℕ) (l : Label) : Type 0 where
-  pub name : Inside t (l .name)
-  pub place : l .place .offset ≤ limit (l .place .section)
-  pub line : l .line < length t
-
-pub record EquateFits (t : List ℕ) (e : Equate) : Type 0 where
-  pub name : Inside t (e .name)
-  pub source : Inside t (e .expression .source)
-  pub place : e .place .offset ≤ limit (e .place .section)
-  pub line : e .line < length t
-
--- the words that an item reserves lie within the section
-pub record ItemFits (t : List ℕ) (x : ItemLine) : Type 0 where
-  pub source : Inside t (x .source)
-  pub place : x .offset + 4 * reservedWords (x .item) (x .source .bytes) ≤ limit section.Text
-  pub line : x .line < length t
-
--- a label's address has its four bytes among n
-pub record LabelWordFits (t : List ℕ) (n : ℕ) (w : LabelWord) : Type 0 where
-  pub place : w .at + 4 ≤ n
-  pub line : w .line < length t
-
--- the words that items reserve together
-unfoldable pub reservedIn : List ItemLine → ℕ
-reservedIn [] = 0
-reservedIn (x ∷ xs) = reservedWords (x .item) (x .source .bytes) + reservedIn xs
-
--- each kind of record within its limit and what is lent for it
-pub record LabelsFit (t : List ℕ) (k : Lent) (ls : List Label) : Type 0 where
-  pub few : length ls ≤ min 1024 (k .labels / 16)
-  pub each : Each (LabelFits t) ls
-
-pub record EquatesFit (t : List ℕ) (k : Lent) (es : List Equate) : Type 0 where
-  pub few : length es ≤ min 256 (k .equates / 24)
-  pub each : Each (EquateFits t) es
-
--- and the text's words, which are those that its items reserve
-pub record ItemsFit (t : List ℕ) (k : Lent) (words : ℕ) (xs : List ItemLine) : Type 0 where
-  pub room : words ≤ min 16384 (k .words)
-  pub sum : words ≡ reservedIn xs
-  pub few : length xs ≤ min 2048 (k .items / 24)
-  pub each : Each (ItemFits t) xs
-
-pub record ImageFits (t : List ℕ) (k : Lent) (image : List ℕ) (ws : List LabelWord) : Type 0 where
-  pub room : length image ≤ min 65536 (k .bytes)
-  pub few : length ws ≤ 1024
-  pub each : Each (LabelWordFits t (length image)) ws
-
--- what has been laid out fits
-pub record Fits (t : List ℕ) (k : Lent) (σ : State) : Type 0 where
-  pub labels : LabelsFit t k (σ .labels)
-  pub equates : EquatesFit t k (σ .equates)
-  pub items : ItemsFit t k (σ .words) (σ .items)
-  pub image : ImageFits t k (σ .image) (σ .labelWords)
-  pub bss : σ .bss ≤ limit section.Bss
 
 -- a move leaves what fits, or stops at a line of the text
 abbrev pub MoveFits : List ℕ → Lent → Move → Type 0
@@ -472,7 +407,7 @@ module _ (t : List ℕ) (k : Lent) where
     says-fits s σ refusal-there f = h
 
     pub step-line-fits : (p : Piece) (σ : State) → Inside t p → Fits t k σ → MoveFits t k (stepLine k line p σ)
-    unfolding stepLine
+    unfolding stepStatement
     step-line-fits p σ g f =
         let l = lineOf (statementOf p) in
         let i = line-inside t (statementOf p) (statement-inside t p g) in

@@ -5,3 +5,13 @@ pub mod Kept
 pub mod Ending
 pub mod Emissions
 pub mod Fields
+pub mod Parted
+pub mod Said
+pub mod Puts
+pub mod Aligning
+pub mod Spelled
+pub mod Standing
+pub mod Tabled
+pub mod Lines
+pub mod Numbering
+pub mod Turns

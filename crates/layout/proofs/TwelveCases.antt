@@ -14,15 +14,15 @@ use Rattle.numbers.specs.Operands.{commaParts, operands, nonEmpty, itemOperands
 use Rattle.numbers.specs.Registers.{abiNames, numberIn, keyOf, xNumber, bareRegister, registerOf}
 use Rattle.numbers.specs.Text.{text, leading, trimStart, trimEnd, trimmed, spanned, trimSpan, indexOf, before, uncommented, statementSpan, startsWith, same, oneSpaced}
 use Rattle.layout.specs.Addresses.{addressIn, lessBytes, insert, ordered, fill}
-use Rattle.layout.specs.Directives.{le, allLabelBytes, dataWrites, bssWrite, aligned}
+use Rattle.layout.specs.Directives.{le, allLabelBytes, stringOrSpace, dataWrites, bssWrite, aligned}
 use Rattle.layout.specs.Expansions.{expansion}
 use Rattle.layout.specs.Expressions.{scan, tokensIn, anyUnreadable, sumFrom, evaluate}
 use Rattle.layout.specs.Layouts.{emit, highByte, layoutOf, together, encoded, foundEquates}
 use Rattle.layout.specs.Pieces.{lines, linePieces}
 use Rattle.layout.specs.Pseudos.{spellings, itemIn}
 use Rattle.layout.specs.Rounds.{constant, turn, pass, pendingCount, firstPending, rounds}
-use Rattle.layout.specs.Stage.{isLabel, recorded, addLabel, addEquate, addItem, textLine, addData, addLabelWord, dataWrite, dataLine, growBss, bssLine, says, stepLine, lineStage}
-use Rattle.layout.specs.Statements.{startsWithAny, countBefore, sectionNamed, sectionOf, sectionLine, global, equateOf, equOf, assignment, unlabelled, labelled, lineOf}
+use Rattle.layout.specs.Stage.{isLabel, recorded, addLabel, addEquate, addItem, textLine, addData, addLabelWord, dataWrite, dataLine, growBss, bssLine, says, stepStatement, lineStage}
+use Rattle.layout.specs.Statements.{startsWithAny, countBefore, sectionNamed, sectionOf, sectionLine, symbolAfter, globalOf, equateOf, equOf, assignmentOf, unlabelledOf, labelled, lineOf}
 
 abbrev pub full : Lent
 full = record { words = 16384; bytes = 65536; labels = 16384; equates = 6144; items = 49152 }
@@ -90,5 +90,5 @@ pub twelve-cases :
     × (laid (text "a = b\nb = a") ≡ refused 17 0)
     -- 12
     × (imageOf (laid (text ".data\nt: .byte 1\nt: .byte 2\n.word t")) ≡ image (0x01 ∷ 0x02 ∷ 0x01 ∷ 0x10 ∷ 0x00 ∷ 0x00 ∷ []))
-unfolding encoded foundEquates fit64 charLitOf isString unquoted strLitOf allDigits valueFrom digitsFrom digitsOf signedDigits prefixed outerSigned numberOf literalOf imm64Of immOf spacedImmOf commaParts operands nonEmpty itemOperands operandsFrom itemOperandsFrom operandAt itemOperandHere itemOperandAt abiNames numberIn keyOf xNumber bareRegister registerOf leading trimStart trimEnd trimmed spanned trimSpan indexOf before uncommented statementSpan startsWith same oneSpaced addressIn lessBytes insert ordered fill le allLabelBytes dataWrites bssWrite aligned expansion scan tokensIn anyUnreadable sumFrom evaluate emit highByte layoutOf together lines linePieces spellings itemIn constant turn pass pendingCount firstPending rounds isLabel recorded addLabel addEquate addItem textLine addData addLabelWord dataWrite dataLine growBss bssLine says stepLine lineStage startsWithAny countBefore sectionNamed sectionOf sectionLine global equateOf equOf assignment unlabelled labelled lineOf
+unfolding encoded foundEquates fit64 charLitOf isString unquoted strLitOf allDigits valueFrom digitsFrom digitsOf signedDigits prefixed outerSigned numberOf literalOf imm64Of immOf spacedImmOf commaParts operands nonEmpty itemOperands operandsFrom itemOperandsFrom operandAt itemOperandHere itemOperandAt abiNames numberIn keyOf xNumber bareRegister registerOf leading trimStart trimEnd trimmed spanned trimSpan indexOf before uncommented statementSpan startsWith same oneSpaced addressIn lessBytes insert ordered fill le allLabelBytes stringOrSpace dataWrites bssWrite aligned expansion scan tokensIn anyUnreadable sumFrom evaluate emit highByte layoutOf together lines linePieces spellings itemIn constant turn pass pendingCount firstPending rounds isLabel recorded addLabel addEquate addItem textLine addData addLabelWord dataWrite dataLine growBss bssLine says stepStatement lineStage startsWithAny countBefore sectionNamed sectionOf sectionLine symbolAfter globalOf equateOf equOf assignmentOf unlabelledOf labelled lineOf
 twelve-cases = (refl, refl, refl, refl, refl, refl, refl, refl, refl, refl, refl, refl, refl, refl, refl, refl, refl, refl, refl, refl, refl)

@@ -13,10 +13,12 @@ use Rattle.numbers.specs.Ints.{isByte, isHalf, bits}
 use Rattle.numbers.specs.Numbers.{immOf, imm64Of}
 use Rattle.numbers.specs.Literals.{strLitOf}
 use Rattle.numbers.specs.Operands.{operands}
+use Rattle.layout.specs.declared.directives.Width.{Width}
+use Rattle.layout.specs.declared.directives.Width.the-variants.{Byte, Half, Word, Dword}
 use Rattle.layout.specs.Statements.{startsWithAny}
 use Rattle.layout.specs.Expressions.{isLetter, isDigit}
 
--- what an operand does: stores bytes, gives zeros, moves the place to a multiple, stores a label's address, or is refused
+-- what an operand does: stores bytes, gives zeros, moves the place by .align's rule (`aligned`; not always a multiple), stores a label's address, or is refused
 pub data Write : Type 0 where
   stores : List ℕ → Write
   zeros : ℕ → Write
@@ -42,37 +44,31 @@ isLabelName [] = false
 isLabelName (b ∷ bs) = isLabelStart b && allLabelBytes bs
 
 -- the four widths
-pub data Width : Type 0 where
-  byte1 : Width
-  half2 : Width
-  word4 : Width
-  dword8 : Width
-
 abbrev pub widthBytes : Width → ℕ
-widthBytes byte1 = 1
-widthBytes half2 = 2
-widthBytes word4 = 4
-widthBytes dword8 = 8
+widthBytes Byte = 1
+widthBytes Half = 2
+widthBytes Word = 4
+widthBytes Dword = 8
 
 -- what reads an operand of a width, and the numbers that it stores: "7 .. byte or half outside"
 abbrev pub readAt : Width → List ℕ → Option ℤ
-readAt byte1 s = immOf s
-readAt half2 s = immOf s
-readAt word4 s = immOf s
-readAt dword8 s = imm64Of s
+readAt Byte s = immOf s
+readAt Half s = immOf s
+readAt Word s = immOf s
+readAt Dword s = imm64Of s
 
 abbrev pub rangeAt : Width → ℤ → Bool
-rangeAt byte1 z = isByte z
-rangeAt half2 z = isHalf z
-rangeAt word4 z = true
-rangeAt dword8 z = true
+rangeAt Byte z = isByte z
+rangeAt Half z = isHalf z
+rangeAt Word z = true
+rangeAt Dword z = true
 
 -- an operand that is no number: "6, for `.word` 8", or a name there
 abbrev pub unread : Width → List ℕ → Write
-unread byte1 s = wrong 6
-unread half2 s = wrong 6
-unread word4 s = cond (isLabelName s) (addressOf s) (wrong 8)
-unread dword8 s = wrong 6
+unread Byte s = wrong 6
+unread Half s = wrong 6
+unread Word s = cond (isLabelName s) (addressOf s) (wrong 8)
+unread Dword s = wrong 6
 
 abbrev pub numberWrite : Width → Option ℤ → List ℕ → Write
 numberWrite w none s = unread w s
@@ -99,21 +95,26 @@ abbrev pub stringWrite : List ℕ → Option Span → List ℕ → Write
 stringWrite s none end = wrong 9
 stringWrite s (some p) end = stores (spanned s p ++ end)
 
--- "Directives match by prefix", in this order; 21 for `.float`, 10 for another
+-- strings and sizes: "Directives match by prefix", in this order; 10 for another
+unfoldable pub stringOrSpace : List ℕ → Write
+stringOrSpace s =
+    cond (startsWith (text ".asciz") s) (stringWrite (drop 6 s) (strLitOf (drop 6 s)) (0 ∷ []))
+    (cond (startsWith (text ".string") s) (stringWrite (drop 7 s) (strLitOf (drop 7 s)) (0 ∷ []))
+    (cond (startsWith (text ".ascii") s) (stringWrite (drop 6 s) (strLitOf (drop 6 s)) [])
+    (cond (startsWith (text ".space") s) (sizeWrite (immOf (drop 6 s)))
+    (cond (startsWith (text ".zero") s) (sizeWrite (immOf (drop 5 s)))
+    (wrong 10)))))
+
+-- what a data directive does, operand by operand; 21 for `.float`
 unfoldable pub dataWrites : List ℕ → List Write
 dataWrites s =
     cond (startsWith (text ".align") s) (alignWrite (immOf (drop 6 s)) ∷ [])
-    (cond (startsWith (text ".byte") s) (numbersOf byte1 (drop 5 s))
-    (cond (startsWith (text ".half") s) (numbersOf half2 (drop 5 s))
-    (cond (startsWith (text ".word") s) (numbersOf word4 (drop 5 s))
-    (cond (startsWith (text ".dword") s) (numbersOf dword8 (drop 6 s))
+    (cond (startsWith (text ".byte") s) (numbersOf Byte (drop 5 s))
+    (cond (startsWith (text ".half") s) (numbersOf Half (drop 5 s))
+    (cond (startsWith (text ".word") s) (numbersOf Word (drop 5 s))
+    (cond (startsWith (text ".dword") s) (numbersOf Dword (drop 6 s))
     (cond (startsWith (text ".float") s) (wrong 21 ∷ [])
-    (cond (startsWith (text ".asciz") s) (stringWrite (drop 6 s) (strLitOf (drop 6 s)) (0 ∷ []) ∷ [])
-    (cond (startsWith (text ".string") s) (stringWrite (drop 7 s) (strLitOf (drop 7 s)) (0 ∷ []) ∷ [])
-    (cond (startsWith (text ".ascii") s) (stringWrite (drop 6 s) (strLitOf (drop 6 s)) [] ∷ [])
-    (cond (startsWith (text ".space") s) (sizeWrite (immOf (drop 6 s)) ∷ [])
-    (cond (startsWith (text ".zero") s) (sizeWrite (immOf (drop 5 s)) ∷ [])
-    (wrong 10 ∷ [])))))))))))
+    (stringOrSpace s ∷ []))))))
 
 -- "12 stored data in bss", 11 for another
 abbrev pub storedDirectives : List (List ℕ)

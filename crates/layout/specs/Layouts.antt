@@ -60,6 +60,7 @@ abbrev pub consWord : ℕ → Emission → Emission
 consWord w (emits ws) = emits (w ∷ ws)
 consWord w (refuses n) = refuses n
 
+-- no expansion is refused by the encoder (22, 23): to be proved; the case is there because Answer has it
 abbrev pub onAnswer : Answer → Emission → Emission
 onAnswer (word w) e = consWord w e
 onAnswer (enc.refused n) e = refuses n

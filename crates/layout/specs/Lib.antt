@@ -4,7 +4,12 @@ pub mod Pseudos
 pub mod Expressions
 pub mod Directives
 pub mod Stage
+pub mod Limits
 pub mod Addresses
 pub mod Rounds
 pub mod Expansions
 pub mod Layouts
+pub mod Spans
+pub mod Tables
+pub mod Kinds
+pub mod Stands

@@ -57,6 +57,7 @@ pub record LabelWord : Type 0 where
 pub record State : Type 0 where
   pub section : Section
   pub words : ℕ
+  -- the data's bytes
   pub image : List ℕ
   pub bss : ℕ
   pub labels : List Label
@@ -204,8 +205,11 @@ says k line (say.own p) σ = ownLine k line p (σ .section) σ
 says k line (say.refused n) σ = stop n line
 
 -- "a label's 45 first", then what the statement says
-unfoldable pub stepLine : Lent → ℕ → Piece → State → Move
-stepLine k line p σ = andThen (addLabel k line (lineOf (statementOf p) .label) σ) (says k line (lineOf (statementOf p) .says))
+unfoldable pub stepStatement : Lent → ℕ → Piece → State → Move
+stepStatement k line q σ = andThen (addLabel k line (lineOf q .label) σ) (says k line (lineOf q .says))
+
+abbrev pub stepLine : Lent → ℕ → Piece → State → Move
+stepLine k line p σ = stepStatement k line (statementOf p) σ
 
 -- "then lines in order"
 unfoldable pub lineStage : Lent → ℕ → List Piece → State → Move

@@ -4,8 +4,8 @@ use mathlib.Core.List.{List, [], _∷_}
 use mathlib.Core.Bool.{Bool, true, false, cond, not, _&&_, _||_}
 use mathlib.Core.Option.{Option, none, some}
 use lib.Dec.{eqb}
-use lib.ListN.{length, take}
-use Rattle.numbers.specs.Text.{text, byte, isSpace, startsWith, same, oneSpaced}
+use lib.ListN.{length, take, drop}
+use Rattle.numbers.specs.Text.{text, byte, isSpace, trimmed, startsWith, same, oneSpaced}
 use Rattle.layout.specs.declared.line.Section.{Section}
 use Rattle.layout.specs.declared.line.Section.the-variants as section
 use Rattle.layout.specs.Pieces.{Piece, piece, trimPiece, fromByte, holds, pieceBefore, pieceAfter, isEmpty}
@@ -66,25 +66,28 @@ sectionOf n =
     (sectionNamed (withoutDot n)))
 
 -- "A section's name ends at a blank or comma"
+abbrev pub endsSectionName : ℕ → Bool
+endsSectionName b = isSpace b || eqb b (byte ",")
+
 abbrev pub sectionName : List ℕ → List ℕ
-sectionName s = take (countBefore (λ b. isSpace b || eqb b (byte ",")) s) s
+sectionName s = take (countBefore endsSectionName s) s
 
 -- "A line `.text`, `.data`, `.bss` or beginning `.section` is taken whole"
 abbrev pub isSectionLine : List ℕ → Bool
 isSectionLine s = isOneOf (text ".text" ∷ text ".data" ∷ text ".bss" ∷ []) s || startsWith (text ".section") s
 
-unfoldable pub sectionLine : Piece → Statement
-sectionLine p =
-    cond (startsWith (text ".section") (p .bytes))
-    (sectionOf (sectionName (trimPiece (fromByte 8 p) .bytes)))
-    (sectionOf (p .bytes))
+unfoldable pub sectionLine : List ℕ → Statement
+sectionLine s = cond (startsWith (text ".section") s) (sectionOf (sectionName (trimmed (drop 8 s)))) (sectionOf s)
 
 -- "4 no symbol after `.globl`/`.global`"
-unfoldable pub global : Piece → Statement
-global p =
-    cond (isEmpty (trimPiece (fromByte (cond (startsWith (text ".globl") (p .bytes)) 6 7) p)))
-    (refused 4)
-    nothing
+abbrev pub globals : List (List ℕ)
+globals = text ".globl" ∷ text ".global" ∷ []
+
+unfoldable pub symbolAfter : List ℕ → Statement
+symbolAfter rest = cond (eqb (length (trimmed rest)) 0) (refused 4) nothing
+
+unfoldable pub globalOf : List ℕ → Statement
+globalOf s = symbolAfter (drop (cond (startsWith (text ".globl") s) 6 7) s)
 
 -- "Ignored"
 abbrev pub ignored : List (List ℕ)
@@ -102,20 +105,20 @@ equOf p =
     (equateOf (piece (p .at) (take (countBefore isSpace (p .bytes)) (p .bytes))) (trimPiece (fromByte (countBefore isSpace (p .bytes)) p)) true)
 
 -- "`name = expr` doesn't begin with a dot and has neither side empty; otherwise the line isn't an equate"
-unfoldable pub assignment : Piece → Statement
-assignment p =
+unfoldable pub assignmentOf : Piece → Statement
+assignmentOf p =
     cond (not (startsWith (text ".") (p .bytes)) && holds (byte "=") p && not (isEmpty (trimPiece (pieceBefore (byte "=") p))) && not (isEmpty (trimPiece (pieceAfter (byte "=") p))))
     (equateOf (trimPiece (pieceBefore (byte "=") p)) (trimPiece (pieceAfter (byte "=") p)) false)
     (own p)
 
 -- "Then `.globl`, ignored directives, `.equ`/`.set`, `name = expr`, then the section's own rule"
-unfoldable pub unlabelled : Piece → Statement
-unlabelled p =
+unfoldable pub unlabelledOf : Piece → Statement
+unlabelledOf p =
     cond (isEmpty p) nothing
-    (cond (startsWithAny (text ".globl" ∷ text ".global" ∷ []) (p .bytes)) (global p)
+    (cond (startsWithAny globals (p .bytes)) (globalOf (p .bytes))
     (cond (startsWithAny ignored (p .bytes)) nothing
     (cond (startsWithAny (text ".equ" ∷ text ".set" ∷ []) (p .bytes)) (equOf (trimPiece (fromByte 4 p)))
-    (assignment p))))
+    (assignmentOf p))))
 
 -- a line's label, if it has one, and what follows it
 pub record Line : Type 0 where
@@ -126,9 +129,9 @@ pub record Line : Type 0 where
 unfoldable pub labelled : Piece → Line
 labelled p =
     cond (holds (byte ":") p)
-    (record { label = some (trimPiece (pieceBefore (byte ":") p)); says = unlabelled (trimPiece (pieceAfter (byte ":") p)) })
-    (record { label = none; says = unlabelled p })
+    (record { label = some (trimPiece (pieceBefore (byte ":") p)); says = unlabelledOf (trimPiece (pieceAfter (byte ":") p)) })
+    (record { label = none; says = unlabelledOf p })
 
 -- the line whose statement is p
 unfoldable pub lineOf : Piece → Line
-lineOf p = cond (isSectionLine (p .bytes)) (record { label = none; says = sectionLine p }) (labelled p)
+lineOf p = cond (isSectionLine (p .bytes)) (record { label = none; says = sectionLine (p .bytes) }) (labelled p)

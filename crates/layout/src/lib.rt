@@ -1,2 +1,10 @@
 // The layout: from a source to words, data, labels, equates and items.
+pub mod directives;
+pub mod equates;
+pub mod items;
+pub mod labels;
 pub mod line;
+pub mod parts;
+pub mod records;
+pub mod stage;
+pub mod writers;

@@ -1,6 +1,4 @@
 // One line of the list against what the crate numbers answers.
-use crate::field::decode;
-use crate::field::end_at;
 use numbers::imm::Imm;
 use numbers::imm::Imm64;
 use numbers::imm::parse_imm;
@@ -24,6 +22,8 @@ use numbers::text::span_bytes;
 use numbers::text::statement_span;
 use numbers::text::text_before;
 use numbers::text::trim;
+use replay::field::decode;
+use replay::field::end_at;
 
 fn is_no(expected: &[u8]) -> bool {
     same_bytes(expected, b"no")

@@ -2,7 +2,6 @@
 // The list's form is described in differential/README.md.
 mod compare;
 mod constants;
-mod field;
 
 use crate::compare::agrees;
 use crate::constants::constants;

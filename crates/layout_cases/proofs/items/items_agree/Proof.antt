@@ -1,0 +1,66 @@
+-- `items::items_agree`: the items are counted, and each record is within its buffer.
+use Prim.Native.Nat.{_≤_, _-_}
+use borrow.Author.Needs.{needs}
+use Rattle.layout_cases.proofs.items.items_agree.Statement.{statement}
+use Rattle.layout_cases.proofs.items.items_agree.Tie as tie
+
+abbrev Inv-loop : tie.InvT-loop
+Inv-loop items count base listed at₀ k₀ at k = k ≤ count
+
+abbrev μ-loop : tie.MeasureT-loop
+μ-loop items count base listed at₀ k₀ at k = count - k
+
+returns : tie.Need-returns Inv-loop μ-loop
+returns c = search needs
+
+loop-holds : tie.Need-loop-holds Inv-loop μ-loop
+loop-holds c = search needs
+
+mul-item-agrees : tie.Need-mul-item-agrees Inv-loop μ-loop
+mul-item-agrees c = search needs
+
+part-at-requires : tie.Need-part-at-requires Inv-loop μ-loop
+part-at-requires c κs = search needs
+
+item-agrees-requires : tie.Need-item-agrees-requires Inv-loop μ-loop
+item-agrees-requires c κs = search needs
+
+returns-2 : tie.Need-returns-2 Inv-loop μ-loop
+returns-2 c = search needs
+
+next-part-requires : tie.Need-next-part-requires Inv-loop μ-loop
+next-part-requires c κs = search needs
+
+add-k : tie.Need-add-k Inv-loop μ-loop
+add-k c = search needs
+
+loop-less : tie.Need-loop-less Inv-loop μ-loop
+loop-less c = search needs
+
+loop-again : tie.Need-loop-again Inv-loop μ-loop
+loop-again c = search needs
+
+ends-before-requires : tie.Need-ends-before-requires Inv-loop μ-loop
+ends-before-requires c κs = search needs
+
+returns-3 : tie.Need-returns-3 Inv-loop μ-loop
+returns-3 c = search needs
+
+pub items-agree-spec : {M : Type 1} → statement M
+items-agree-spec =
+    tie.close
+    (tie.spec
+    Inv-loop
+    μ-loop
+    returns
+    loop-holds
+    mul-item-agrees
+    part-at-requires
+    item-agrees-requires
+    returns-2
+    next-part-requires
+    add-k
+    loop-less
+    loop-again
+    ends-before-requires
+    returns-3)

@@ -1,0 +1,145 @@
+// The labels that the stage found, against the list's, and the label words filled in.
+use crate::listed::ends_before;
+use crate::listed::is_place;
+use crate::listed::next_part;
+use crate::listed::part_at;
+use crate::places::Starts;
+use crate::records::word_at;
+use layout::labels::Found;
+use layout::labels::find_label;
+use layout::records::put_u32;
+use numbers::text::Span;
+use numbers::text::span_bytes;
+use numbers::text::text_before;
+use replay::field::decode;
+use replay::field::text_after;
+
+// A label's place and line.
+enum Label {
+    At(u32, u32),
+    Nothing,
+}
+
+// The label of that name among so many.
+fn label_named(text: &[u8], labels: &[u8], count: usize, name: &[u8]) -> Label {
+    if 65536 < text.len() {
+        return Label::Nothing;
+    }
+    if labels.len() / 16 < count {
+        return Label::Nothing;
+    }
+    let Found::At(k) = find_label(text, labels, count, name) else {
+        return Label::Nothing;
+    };
+    if labels.len() / 16 <= k {
+        return Label::Nothing;
+    }
+    let at = k * 16;
+    Label::At(word_at(labels, at + 8), word_at(labels, at + 12))
+}
+
+// A label of the list: its name, its address and its line.
+fn label_agrees(text: &[u8], labels: &[u8], count: usize, starts: Starts, listed: &[u8]) -> bool {
+    let mut space = io::buffer();
+    let n = decode(text_before(listed, b'@'), &mut space);
+    let Label::At(place, line) = label_named(text, labels, count, &space[..n]) else {
+        return false;
+    };
+    is_place(starts.address(place), line, text_after(listed, b'@'))
+}
+
+// As many labels as were found, each of them among those. The list has no name twice.
+pub fn labels_agree(
+    text: &[u8],
+    labels: &[u8],
+    count: usize,
+    starts: Starts,
+    listed: &[u8],
+) -> bool {
+    let mut at = 0;
+    let mut k = 0;
+    while k < count {
+        if !label_agrees(text, labels, count, starts, part_at(listed, at)) {
+            return false;
+        }
+        at = next_part(listed, at);
+        k += 1;
+    }
+    ends_before(listed, at)
+}
+
+// A label word's four bytes are 0, and take the address of the label that it names.
+fn fill(
+    text: &[u8],
+    labels: &[u8],
+    count: usize,
+    starts: Starts,
+    image: &mut [u8],
+    at: usize,
+    name: Span,
+) -> bool {
+    let Label::At(place, _) = label_named(text, labels, count, span_bytes(text, name)) else {
+        return false;
+    };
+    if image.len() < 4 {
+        return false;
+    }
+    if image.len() - 4 < at {
+        return false;
+    }
+    if word_at(image, at) != 0 {
+        return false;
+    }
+    put_u32(image, at, starts.address(place));
+    true
+}
+
+// The label word whose record stands at a place of the buffer.
+fn fill_one(
+    text: &[u8],
+    labels: &[u8],
+    count: usize,
+    starts: Starts,
+    image: &mut [u8],
+    fixups: &[u8],
+    at: usize,
+) -> bool {
+    if fixups.len() <= at {
+        return false;
+    }
+    let place = word_at(fixups, at) as usize;
+    let start = word_at(fixups, at + 4) as usize;
+    let len = word_at(fixups, at + 8) as usize;
+    fill(
+        text,
+        labels,
+        count,
+        starts,
+        image,
+        place,
+        Span { start, len },
+    )
+}
+
+// Every label word, as the list has it.
+pub fn fill_all(
+    text: &[u8],
+    labels: &[u8],
+    count: usize,
+    starts: Starts,
+    image: &mut [u8],
+    fixups: &[u8],
+    words: usize,
+) -> bool {
+    if fixups.len() / 16 < words {
+        return false;
+    }
+    let mut k = 0;
+    while k < words {
+        if !fill_one(text, labels, count, starts, image, fixups, k * 16) {
+            return false;
+        }
+        k += 1;
+    }
+    true
+}
