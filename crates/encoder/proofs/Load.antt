@@ -16,7 +16,7 @@ use Rattle.numbers.specs.declared.registers.Register.{Register}
 use Rattle.encoder.specs.declared.instruction.Instruction.the-variants.{Addi}
 use Rattle.encoder.specs.Formats.{field, joined, iFields, uFields, bitsAt}
 use Rattle.encoder.specs.Table.{x0}
-use Rattle.encoder.specs.Encoding.{word, encoding}
+use Rattle.encoder.specs.Encoding.{isUpper, word, encoding}
 use Rattle.encoder.specs.Run.{Registers, done, failed, read, write, lui, addi, isLui, isAddi, extended, step, andThen, run, Leaves}
 use Rattle.encoder.specs.Split.{upper, lower, signed32, loadPair}
 use Rattle.numbers.proofs.Bools.{and-left}
@@ -80,7 +80,10 @@ bits-signed u h = go (decLt u (2 ^ 31))
     go (yes l) = rw (lt-ltb u (2 ^ 31) l) refl
     go (no l) = rw (le-ltb u (2 ^ 31) (omega arith)) (omega arith)
 
--- the lower part is a number that addi holds
+-- the upper part is a number that lui holds, the lower part one that addi holds
+pub upper-clear : (b : ℕ) → isUpper (signed32 (upper b)) ≡ true
+upper-clear b = rw (bits-signed (upper b) (omega arith)) (eq-eqb (upper b % 4096) 0 (omega arith))
+
 pub lower-small : (b : ℕ) → isSigned12 (signed32 (lower b)) ≡ true
 lower-small b = go (decLt (b % 4096) 2048)
   where
@@ -122,7 +125,7 @@ pub pair-leaves : (rd : Register) (b : ℕ) → 0 < rd .0 → rd .0 < 32
 pair-leaves rd b some below =
     let r = rd .0 in (
       luiWord r (upper b) ∷ addiWord r r (lower b) ∷ [],
-      rw (bits-signed (upper b) (omega arith), bits-signed (lower b) (lower-below b), le-leb (rd .0) 31 (omega arith), eq-eqb (upper b % 4096) 0 (omega arith), lower-small b) refl,
+      rw (upper-clear b, lower-small b, bits-signed (upper b) (omega arith), bits-signed (lower b) (lower-below b), le-leb (rd .0) 31 (omega arith)) refl,
       λ regs g. (
         set (set regs r (upper b)) r (b % 2 ^ 32),
         ap (andThen (run (addiWord r r (lower b) ∷ []))) (lui-step r (upper b) regs some below (omega arith) (omega arith))

@@ -1,12 +1,14 @@
--- What an item emits: one word at least, no more than it reserves, each below 2^32.
+-- What an item emits: a word for each of its instructions, none refused by the encoder, each below 2^32; and how many, against what it reserves.
 use Prim.Native.Nat.{ℕ, suc, _^_, _≤_, _<_}
 use mathlib.Core.Path.{_≡_, refl, ap}
+use mathlib.Core.Logic.{_⊎_, inl, inr}
 use mathlib.Core.List.{List, [], _∷_}
 use mathlib.Core.Bool.{Bool, true, false, cond, _&&_}
-use mathlib.Core.Option.{Option, none, some}
+use mathlib.Core.Option.{Option, none, some, orElse}
 use native.Mathlib.Omega.{arith}
 use lib.IntN.{ℤ}
 use lib.ListN.{length}
+use borrow.Author.Tests.{le-leb}
 use Rattle.numbers.specs.declared.registers.Register.{Register}
 use Rattle.numbers.specs.Text.{text, startsWith}
 use Rattle.numbers.specs.Ints.{isSigned12, isSigned32, bits}
@@ -21,10 +23,12 @@ use Rattle.encoder.specs.Table.{x0, formOf}
 use Rattle.encoder.specs.Encoding as enc
 use Rattle.encoder.specs.Encoding.{Answer, word, checked, isRegister, isBranch, isJump, isShift, isUpper, wordOf, encoding}
 use Rattle.encoder.specs.Split.{loadPair}
+use Rattle.numbers.proofs.Names.{register-below}
 use Rattle.encoder.proofs.Fields.{joined-below}
+use Rattle.encoder.proofs.Load.{upper-clear, lower-small}
 use Rattle.layout.specs.declared.line.Pseudo.{Pseudo}
 use Rattle.layout.specs.declared.line.Pseudo.the-variants.{Li, La, Push, Pop, Print, PrintStr, Read, ReadByte, Random}
-use Rattle.layout.specs.Pseudos.{pseudoOperands, liNumber, liWords, pseudoWords, reservedWords}
+use Rattle.layout.specs.Pseudos.{pseudoOperands, liNumber, liWords, reservedWords}
 use Rattle.layout.specs.Expansions.{Expanded, instructions, refusedBy, onRegister, oneOperand, twoOperands, onLabel, noRegister, liConstant, onNumber, liLoad, expansion}
 use Rattle.layout.specs.Layouts.{Emission, emits, refuses, onAnswer, encoded, onExpanded, emission}
 use Rattle.layout.specs.Limits.{Each}
@@ -72,95 +76,160 @@ encoded-each (i ∷ is) = by (encoding i) (encoded is) (word-fits (formOf i)) (e
     by (word w) (refuses n) h g = tt
     by (enc.refused n) e h g = tt
 
--- one instruction at least, and no more than n
-abbrev pub ExpandedFits : ℕ → Expanded → Type 0
-ExpandedFits n (instructions is) = (1 ≤ length is) × (length is ≤ n)
-ExpandedFits n (refusedBy m) = Unit
+-- no refusal
+abbrev pub Taken : Emission → Type 0
+Taken (emits vs) = Unit
+Taken (refuses n) = ⊥
 
-module _ (n : ℕ) where
-  on-register : (o : Option ℕ) (f : Register → Expanded) → ((r : Register) → ExpandedFits n (f r)) → ExpandedFits n (onRegister o f)
-  on-register none f g = tt
-  on-register (some r) f g = g _
+-- "18 pseudo operand count, bad register", "19 li operand", "20 label not found"
+abbrev pub PseudoRefusal : ℕ → Type 0
+PseudoRefusal n = (n ≡ 18) ⊎ (n ≡ 19) ⊎ (n ≡ 20)
 
-  on-label : (o : Option ℕ) (f : ℕ → Expanded) → ((a : ℕ) → ExpandedFits n (f a)) → ExpandedFits n (onLabel o f)
-  on-label none f g = tt
+-- one instruction at least, as many as C allows, and the encoder takes them all
+abbrev pub ExpandedFits : (ℕ → Type 0) → Expanded → Type 0
+ExpandedFits C (instructions is) = (1 ≤ length is) × C (length is) × Taken (encoded is)
+ExpandedFits C (refusedBy n) = PseudoRefusal n
+
+module _ (C : ℕ → Type 0) where
+  on-register : (a : List ℕ) (f : Register → Expanded) → ((r : Register) → isRegister r ≡ true → ExpandedFits C (f r))
+      → ExpandedFits C (onRegister (registerOf a) f)
+  on-register a f g = by (registerOf a) refl
+    where
+      by : (o : Option ℕ) → registerOf a ≡ o → ExpandedFits C (onRegister o f)
+      by none e = inl refl
+      by (some n) e = g _ (le-leb n 31 (omega (arith, register-below a n e)))
+
+  on-label : (o : Option ℕ) (f : ℕ → Expanded) → ((a : ℕ) → ExpandedFits C (f a)) → ExpandedFits C (onLabel o f)
+  on-label none f g = inr (inr refl)
   on-label (some a) f g = g a
 
-  no-register : (o : Option ℕ) (e : Expanded) → ExpandedFits n e → ExpandedFits n (noRegister o e)
+  no-register : (o : Option ℕ) (e : Expanded) → ExpandedFits C e → ExpandedFits C (noRegister o e)
   no-register none e g = g
-  no-register (some r) e g = tt
+  no-register (some r) e g = inl refl
 
-  one-operand : (ops : List (List ℕ)) (f : List ℕ → Expanded) → ((a : List ℕ) → ExpandedFits n (f a)) → ExpandedFits n (oneOperand ops f)
-  one-operand [] f g = tt
+  one-operand : (ops : List (List ℕ)) (f : List ℕ → Expanded) → ((a : List ℕ) → ExpandedFits C (f a)) → ExpandedFits C (oneOperand ops f)
+  one-operand [] f g = inl refl
   one-operand (a ∷ []) f g = g a
-  one-operand (a ∷ b ∷ bs) f g = tt
+  one-operand (a ∷ b ∷ bs) f g = inl refl
 
-  two-operands : (ops : List (List ℕ)) (f : List ℕ → List ℕ → Expanded) → ((a b : List ℕ) → ExpandedFits n (f a b)) → ExpandedFits n (twoOperands ops f)
-  two-operands [] f g = tt
-  two-operands (a ∷ []) f g = tt
+  one-register : (ops : List (List ℕ)) (f : Register → Expanded) → ((r : Register) → isRegister r ≡ true → ExpandedFits C (f r))
+      → ExpandedFits C (oneOperand ops (λ a. onRegister (registerOf a) f))
+  one-register ops f g = one-operand ops _ (λ a. on-register a f g)
+
+  one-label : (label : List ℕ → Option ℕ) (ops : List (List ℕ)) (f : ℕ → Expanded) → ((n : ℕ) → ExpandedFits C (f n))
+      → ExpandedFits C (oneOperand ops (λ a. noRegister (registerOf a) (onLabel (label a) f)))
+  one-label label ops f g = one-operand ops _ (λ a. no-register (registerOf a) _ (on-label (label a) f g))
+
+  two-operands : (ops : List (List ℕ)) (f : List ℕ → List ℕ → Expanded) → ((a b : List ℕ) → ExpandedFits C (f a b)) → ExpandedFits C (twoOperands ops f)
+  two-operands [] f g = inl refl
+  two-operands (a ∷ []) f g = inl refl
   two-operands (a ∷ b ∷ []) f g = g a b
-  two-operands (a ∷ b ∷ c ∷ cs) f g = tt
+  two-operands (a ∷ b ∷ c ∷ cs) f g = inl refl
 
--- li by its two cases: one word where the number is small, else two
-load-fits : (n : ℕ) (rd : Register) (z : ℤ) → cond (isSigned12 z) 1 2 ≤ n → ExpandedFits n (liLoad rd z)
-load-fits n rd z h = by (isSigned12 z) h
+  -- li by its two cases: one word where the number is small, else two
+  load-fits : (rd : Register) (z : ℤ) → isRegister rd ≡ true → C (liNumber (some z)) → ExpandedFits C (liLoad rd z)
+  unfolding encoded
+  load-fits rd z r h = by (isSigned12 z) refl h
+    where
+      by : (c : Bool) → isSigned12 z ≡ c → C (cond c 1 2) → ExpandedFits C (instructions (cond c (Addi rd x0 z ∷ []) (loadPair rd (bits 32 z))))
+      by true e h = (omega arith, h, rw (r, e) tt)
+      by false e h = (omega arith, h, rw (r, upper-clear (bits 32 z), lower-small (bits 32 z)) tt)
+
+  number-fits : (const : List ℕ → Option ℤ) (rd : Register) (b : List ℕ) (o : Option ℤ) → isRegister rd ≡ true → C (liNumber (orElse o (const b)))
+      → ExpandedFits C (onNumber o b const (liLoad rd))
+  unfolding orElse
+  number-fits const rd b (some z) r h = load-fits rd z r h
+  number-fits const rd b none r h = by (startsWith (text "'") b) (const b) h
+    where
+      last : (z : ℤ) (c : Bool) → C (liNumber (some z)) → ExpandedFits C (cond c (liLoad rd z) (refusedBy 19))
+      last z true h = load-fits rd z r h
+      last z false h = inr (inl refl)
+
+      by : (c : Bool) (o : Option ℤ) → C (liNumber o) → ExpandedFits C (cond c (refusedBy 19) (liConstant o (liLoad rd)))
+      by true o h = inr (inl refl)
+      by false none h = inr (inl refl)
+      by false (some z) h = last z (isSigned32 z) h
+
+-- li's words by what it loads, a number or else an equate
+abbrev pub liLoads : (List ℕ → Option ℤ) → List (List ℕ) → ℕ
+liLoads const [] = 1
+liLoads const (a ∷ []) = 1
+liLoads const (a ∷ b ∷ bs) = liNumber (orElse (immOf b) (const b))
+
+-- as many as the item reserves, but li's by what it loads
+abbrev pub Sized : (List ℕ → Option ℤ) → Option Pseudo → List ℕ → List (List ℕ) → ℕ → Type 0
+Sized const item s ops n = ((n ≡ reservedWords item s) ⊎ (item ≡ some Li)) × (item ≡ some Li → n ≡ liLoads const ops)
+
+-- never more than reserved
+few : (const : List ℕ → Option ℤ) (item : Option Pseudo) (s : List ℕ) (n : ℕ) → Sized const item s (pseudoOperands s) n → n ≤ reservedWords item s
+unfolding orElse
+few const item s n h = go (h .0)
   where
-    by : (c : Bool) → cond c 1 2 ≤ n → ExpandedFits n (instructions (cond c (Addi rd x0 z ∷ []) (loadPair rd (bits 32 z))))
-    by true h = (omega arith, h)
-    by false h = (omega arith, h)
+    two : (o : Option ℤ) → liNumber o ≤ 2
+    two none = omega arith
+    two (some z) = cond-has (λ m. m ≤ 2) (isSigned12 z) 1 2 (omega arith) (omega arith)
 
-number-fits : (const : List ℕ → Option ℤ) (rd : Register) (b : List ℕ) (o : Option ℤ) → ExpandedFits (liNumber o) (onNumber o b const (liLoad rd))
-number-fits const rd b (some z) = load-fits (cond (isSigned12 z) 1 2) rd z (omega arith)
-number-fits const rd b none = by (startsWith (text "'") b) (const b)
-  where
-    last : (z : ℤ) (c : Bool) → ExpandedFits 2 (cond c (liLoad rd z) (refusedBy 19))
-    last z true = load-fits 2 rd z (cond-has (λ m. m ≤ 2) (isSigned12 z) 1 2 (omega arith) (omega arith))
-    last z false = tt
+    last : (o e : Option ℤ) → liNumber (orElse o e) ≤ liNumber o
+    last none e = two e
+    last (some z) e = omega arith
 
-    by : (c : Bool) (o : Option ℤ) → ExpandedFits 2 (cond c (refusedBy 19) (liConstant o (liLoad rd)))
-    by true o = tt
-    by false none = tt
-    by false (some z) = last z (isSigned32 z)
+    by : (ops : List (List ℕ)) → liLoads const ops ≤ liWords ops
+    by [] = omega arith
+    by (a ∷ []) = omega arith
+    by (a ∷ b ∷ bs) = last (immOf b) (const b)
 
-li-fits : (const : List ℕ → Option ℤ) (ops : List (List ℕ))
-    → ExpandedFits (liWords ops) (twoOperands ops (λ a b. onRegister (registerOf a) (λ rd. onNumber (immOf b) b const (liLoad rd))))
-li-fits const [] = tt
-li-fits const (a ∷ []) = tt
-li-fits const (a ∷ b ∷ []) = on-register (liNumber (immOf b)) (registerOf a) (λ rd. onNumber (immOf b) b const (liLoad rd)) (λ rd. number-fits const rd b (immOf b))
-li-fits const (a ∷ b ∷ c ∷ cs) = tt
+    go : (n ≡ reservedWords item s) ⊎ (item ≡ some Li) → n ≤ reservedWords item s
+    go (inl e) = omega arith
+    go (inr e) = rw (e, h .1 e) (by (pseudoOperands s))
 
--- each of the nine stays within what it reserves
-pub expansion-fits : (const : List ℕ → Option ℤ) (label : List ℕ → Option ℕ) (p : Pseudo) (s : List ℕ)
-    → ExpandedFits (pseudoWords p s) (expansion const label p (pseudoOperands s))
-unfolding expansion
-expansion-fits const label Li s = li-fits const (pseudoOperands s)
-expansion-fits const label La s =
-    two-operands 2 (pseudoOperands s) _ (λ a b. on-register 2 (registerOf a) _ (λ rd. on-label 2 (label b) _ (λ n. (omega arith, omega arith))))
-expansion-fits const label Push s = one-operand 2 (pseudoOperands s) _ (λ a. on-register 2 (registerOf a) _ (λ rd. (omega arith, omega arith)))
-expansion-fits const label Pop s = one-operand 2 (pseudoOperands s) _ (λ a. on-register 2 (registerOf a) _ (λ rd. (omega arith, omega arith)))
-expansion-fits const label Print s = one-operand 3 (pseudoOperands s) _ (λ a. on-register 3 (registerOf a) _ (λ rd. (omega arith, omega arith)))
-expansion-fits const label PrintStr s =
-    one-operand 11 (pseudoOperands s) _ (λ a. no-register 11 (registerOf a) _ (on-label 11 (label a) _ (λ n. (omega arith, omega arith))))
-expansion-fits const label Read s =
-    one-operand 6 (pseudoOperands s) _ (λ a. no-register 6 (registerOf a) _ (on-label 6 (label a) _ (λ n. (omega arith, omega arith))))
-expansion-fits const label ReadByte s =
-    one-operand 4 (pseudoOperands s) _ (λ a. no-register 4 (registerOf a) _ (on-label 4 (label a) _ (λ n. (omega arith, omega arith))))
-expansion-fits const label Random s = one-operand 8 (pseudoOperands s) _ (λ a. on-register 8 (registerOf a) _ (λ rd. (omega arith, omega arith)))
+-- the words of an item, and how many
+abbrev pub EmissionFits : (List ℕ → Option ℤ) → Option Pseudo → List ℕ → Emission → Type 0
+EmissionFits const item s (emits vs) =
+    (1 ≤ length vs) × (length vs ≤ reservedWords item s) × Each IsWord vs × Sized const item s (pseudoOperands s) (length vs)
+EmissionFits const item s (refuses n) = PseudoRefusal n
 
--- and so many words
-abbrev pub EmissionFits : ℕ → Emission → Type 0
-EmissionFits n (emits vs) = (1 ≤ length vs) × (length vs ≤ n) × Each IsWord vs
-EmissionFits n (refuses m) = Unit
+module _ (const : List ℕ → Option ℤ) (label : List ℕ → Option ℕ) where
+  -- each of the nine, of any operands
+  pub expansion-fits : (p : Pseudo) (s : List ℕ) (ops : List (List ℕ)) → ExpandedFits (Sized const (some p) s ops) (expansion const label p ops)
+  unfolding expansion encoded
+  expansion-fits Li s [] = inl refl
+  expansion-fits Li s (a ∷ []) = inl refl
+  expansion-fits Li s (a ∷ b ∷ []) = on-register _ a _ (λ rd r. number-fits _ const rd b (immOf b) r (inr refl, λ e. refl))
+  expansion-fits Li s (a ∷ b ∷ c ∷ cs) = inl refl
+  expansion-fits La s ops =
+      two-operands _ ops _ (λ a b. on-register _ a _ (λ rd r. on-label _ (label b) _ (λ n. (omega arith, (inl refl, λ e. cc), rw (r, upper-clear n, lower-small n) tt))))
+  expansion-fits Push s ops = one-register _ ops _ (λ rs r. (omega arith, (inl refl, λ e. cc), rw r tt))
+  expansion-fits Pop s ops = one-register _ ops _ (λ rd r. (omega arith, (inl refl, λ e. cc), rw r tt))
+  expansion-fits Print s ops = one-register _ ops _ (λ rd r. (omega arith, (inl refl, λ e. cc), rw r tt))
+  expansion-fits PrintStr s ops = one-label _ label ops _ (λ n. (omega arith, (inl refl, λ e. cc), rw (upper-clear n, lower-small n) tt))
+  expansion-fits Read s ops = one-label _ label ops _ (λ n. (omega arith, (inl refl, λ e. cc), rw (upper-clear n, lower-small n) tt))
+  expansion-fits ReadByte s ops = one-label _ label ops _ (λ n. (omega arith, (inl refl, λ e. cc), rw (upper-clear n, lower-small n) tt))
+  expansion-fits Random s ops = one-register _ ops _ (λ rd r. (omega arith, (inl refl, λ e. cc), rw r tt))
 
-pub emission-fits : (const : List ℕ → Option ℤ) (label : List ℕ → Option ℕ) (item : Option Pseudo) (s : List ℕ)
-    → EmissionFits (reservedWords item s) (emission const label item s)
-emission-fits const label none s = (omega arith, omega arith, (omega arith, tt))
-emission-fits const label (some p) s = by (expansion const label p (pseudoOperands s)) (expansion-fits const label p s)
-  where
-    all : (is : List Instruction) (e : Emission) → 1 ≤ length is → length is ≤ pseudoWords p s → WordEach is e → EmissionFits (pseudoWords p s) e
-    all is (emits vs) h i g = (omega (arith, g .0), omega (arith, g .0), g .1)
-    all is (refuses n) h i g = tt
+  -- the encoder refuses no expansion
+  pub expansion-encodes : (p : Pseudo) (ops : List (List ℕ)) (is : List Instruction) → expansion const label p ops ≡ instructions is
+      → (ws : List ℕ) × (encoded is ≡ emits ws) × (length ws ≡ length is)
+  expansion-encodes p ops is e = by (encoded is) ((rw e at (expansion-fits p [] ops)) .2) (encoded-each is)
+    where
+      by : (x : Emission) → Taken x → WordEach is x → (ws : List ℕ) × (x ≡ emits ws) × (length ws ≡ length is)
+      by (emits ws) k g = (ws, refl, g .0)
+      by (refuses n) k g = absurd k
 
-    by : (x : Expanded) → ExpandedFits (pseudoWords p s) x → EmissionFits (pseudoWords p s) (onExpanded x)
-    by (instructions is) h = all is (encoded is) (h .0) (h .1) (encoded-each is)
-    by (refusedBy n) h = tt
+  pub emission-fits : (item : Option Pseudo) (s : List ℕ) → EmissionFits const item s (emission const label item s)
+  emission-fits none s = (omega arith, omega arith, (omega arith, tt), (inl refl, λ e. cc))
+  emission-fits (some p) s = by (expansion const label p (pseudoOperands s)) (expansion-fits p s (pseudoOperands s))
+    where
+      C : ℕ → Type 0
+      C = Sized const (some p) s (pseudoOperands s)
+
+      all : (is : List Instruction) (e : Emission) → 1 ≤ length is → C (length is) → Taken e → WordEach is e → EmissionFits const (some p) s e
+      all is (emits vs) h c k g = rw (g .0) (h, few const (some p) s (length is) c, g .1, c)
+      all is (refuses n) h c k g = absurd k
+
+      by : (x : Expanded) → ExpandedFits C x → EmissionFits const (some p) s (onExpanded x)
+      by (instructions is) h = all is (encoded is) (h .0) (h .1) (h .2) (encoded-each is)
+      by (refusedBy n) h = h
+
+  -- an item is refused by 18, 19 or 20 alone
+  pub emission-refused : (item : Option Pseudo) (s : List ℕ) (n : ℕ) → emission const label item s ≡ refuses n → PseudoRefusal n
+  emission-refused item s n e = rw e at (emission-fits item s)

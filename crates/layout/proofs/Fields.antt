@@ -17,7 +17,7 @@ use Rattle.layout.specs.declared.line.Section.{Section}
 use Rattle.layout.specs.declared.line.Section.the-variants as section
 use Rattle.layout.specs.declared.line.Pseudo.{Pseudo}
 use Rattle.layout.specs.declared.line.Pseudo.the-variants.{Li, La, Push, Pop, Print, PrintStr, Read, ReadByte, Random}
-use Rattle.layout.specs.Pseudos.{reservedWords, itemKind}
+use Rattle.layout.specs.Pseudos.{itemKind}
 use Rattle.layout.specs.Directives.{le}
 use Rattle.layout.specs.Stage.{Lent, Place, Equate, ItemLine, LabelWord, State, Move, go, stop, start, lineStage, isLabel}
 use Rattle.layout.specs.Pieces.{lines, linePieces}
@@ -29,6 +29,7 @@ use Rattle.layout.specs.Layouts.{EquateAt, ItemAt, Layout, Outcome, acce
 use Rattle.layout.specs.Layouts as lay
 use Rattle.layout.specs.Limits.{Inside, Each, limit, LabelFits, EquateFits, ItemFits, LabelWordFits, Fits, reservedIn}
 use Rattle.layout.proofs.Each.{each-append, each-weaker, each-map, each-mapped, each-some}
+use Rattle.layout.proofs.Puts.{length-le, length-put}
 use Rattle.layout.proofs.Emissions.{IsWord, EmissionFits, emission-fits}
 use Rattle.layout.proofs.Kept.{MoveFits, stage-fits}
 use Rattle.layout.proofs.Ending.{Comes, AtLine, Resolved, Ended, triangle, pending-all, equates-all, all-end}
@@ -158,22 +159,6 @@ kind-small (some Read) = omega arith
 kind-small (some ReadByte) = omega arith
 kind-small (some Random) = omega arith
 
-pub le-length : (w v : ℕ) → length (le w v) ≡ w
-unfolding le
-le-length zero v = refl
-le-length (suc w) v = ap suc (le-length w (v / 256))
-
--- bytes put among others change no length
-pub put-length : (at : ℕ) (vs xs : List ℕ) → at + length vs ≤ length xs → length (put at vs xs) ≡ length xs
-put-length at vs xs h =
-    omega (
-      arith,
-      length-append (take at xs ++ vs) (drop (at + length vs) xs),
-      length-append (take at xs) vs,
-      length-take-le at xs (omega (arith, h)),
-      length-drop (at + length vs) xs,
-    )
-
 module _ (t : List ℕ) where
   -- filling in the label words leaves the data's length, or stops at a line of the text
   abbrev pub FilledFits : ℕ → Filled → Type 0
@@ -190,9 +175,9 @@ module _ (t : List ℕ) where
           → FilledFits n (onFilled (fillOne o w image) (fill look ws))
       by none more = g .0 .line
       by (some a) more =
-          let l = le-length 4 a in
+          let l = length-le 4 a in
           let room : w .at + length (le 4 a) ≤ length image = omega (arith, l, e, g .0 .place) in
-          more (put (w .at) (le 4 a) image) (put-length (w .at) (le 4 a) image room ∙ e) (g .1)
+          more (put (w .at) (le 4 a) image) (length-put (w .at) (le 4 a) image room ∙ e) (g .1)
 
   -- the items' words and records, where ws and is were there before
   pub record Emits (xs : List ItemLine) (ws : List ℕ) (is : List ItemAt) (ws′ : List ℕ) (is′ : List ItemAt) : Type 0 where
@@ -213,7 +198,7 @@ module _ (t : List ℕ) where
     emit-fits (x ∷ xs) ws is g h i =
         by (emission const label (x .item) (x .source .bytes)) (emission-fits const label (x .item) (x .source .bytes)) (emit-fits xs)
       where
-        by : (e : Emission) → EmissionFits (reservedWords (x .item) (x .source .bytes)) e
+        by : (e : Emission) → EmissionFits const (x .item) (x .source .bytes) e
             → ((ws : List ℕ) (is : List ItemAt) → Each (ItemFits t) xs → Each IsWord ws → Each (ItemAtFits t (length ws)) is
             → EmittedFits (Emits xs ws is) (emit base const label xs ws is))
             → EmittedFits (Emits (x ∷ xs) ws is) (emitOne base ws is x e (emit base const label xs))
@@ -289,14 +274,14 @@ pub record LayoutFits (t : List ℕ) (k : Lent) (l : Layout) : Type 0 where
   pub text : length t ≤ 65536
   pub words : length (l .words) ≤ min 16384 (k .words)
   pub eachWord : Each IsWord (l .words)
-  pub image : length (l .image) ≤ min 65536 (k .bytes)
+  pub image : length (l .image) ≤ min 65536 (k .dataBytes)
   pub bss : l .bss ≤ 1048576
   pub memory : l .imageBase + length (l .image) + l .bss < 2 ^ 32
-  pub labels : length (l .labels) ≤ min 1024 (k .labels / 16)
+  pub labels : length (l .labels) ≤ min 1024 (k .labelBytes / 16)
   pub eachLabel : Each (LabelAtFits t) (l .labels)
-  pub equates : length (l .equates) ≤ min 256 (k .equates / 24)
+  pub equates : length (l .equates) ≤ min 256 (k .equateBytes / 24)
   pub eachEquate : Each (EquateAtFits t (length (l .equates))) (l .equates)
-  pub items : length (l .items) ≤ min 2048 (k .items / 24)
+  pub items : length (l .items) ≤ min 2048 (k .itemBytes / 24)
   pub eachItem : Each (ItemAtFits t (length (l .words))) (l .items)
   pub evaluations : l .evaluations ≤ triangle (length (l .equates))
 
@@ -410,10 +395,10 @@ layout-fits t base k = by (ltb 0xFF000000 base) (ltb 65536 (length t)) refl refl
 
 pub record BuffersFit (k : Lent) (b : Buffers) : Type 0 where
   pub words : length (b .words) ≡ k .words
-  pub image : length (b .image) ≡ k .bytes
-  pub labels : length (b .labels) ≡ k .labels
-  pub equates : length (b .equates) ≡ k .equates
-  pub items : length (b .items) ≡ k .items
+  pub image : length (b .image) ≡ k .dataBytes
+  pub labels : length (b .labels) ≡ k .labelBytes
+  pub equates : length (b .equates) ≡ k .equateBytes
+  pub items : length (b .items) ≡ k .itemBytes
 
 padded-length : (n : ℕ) (xs : List ℕ) → length xs ≤ n → length (padded n xs) ≡ n
 padded-length n xs h = length-append xs (replicate (n - length xs) 0) ∙ omega (arith, length-replicate {A = ℕ} (n - length xs) 0)
@@ -444,16 +429,16 @@ buffers-fit t base k = by (layoutOf t base k) (layout-fits t base k)
     by (accepted l) f =
         record {
           words = padded-length (k .words) (l .words) (omega (arith, f .words));
-          image = padded-length (k .bytes) (l .image) (omega (arith, f .image));
-          labels = padded-length (k .labels) (together (map labelRecord (l .labels))) (omega (arith, together-length labelRecord 16 label-size (l .labels), f .labels));
-          equates = padded-length (k .equates) (together (map equateRecord (l .equates))) (omega (arith, together-length equateRecord 24 equate-size (l .equates), f .equates));
-          items = padded-length (k .items) (together (map itemRecord (l .items))) (omega (arith, together-length itemRecord 24 item-size (l .items), f .items));
+          image = padded-length (k .dataBytes) (l .image) (omega (arith, f .image));
+          labels = padded-length (k .labelBytes) (together (map labelRecord (l .labels))) (omega (arith, together-length labelRecord 16 label-size (l .labels), f .labels));
+          equates = padded-length (k .equateBytes) (together (map equateRecord (l .equates))) (omega (arith, together-length equateRecord 24 equate-size (l .equates), f .equates));
+          items = padded-length (k .itemBytes) (together (map itemRecord (l .items))) (omega (arith, together-length itemRecord 24 item-size (l .items), f .items));
         }
     by (lay.refused n line) f =
         record {
           words = length-replicate (k .words) 0;
-          image = length-replicate (k .bytes) 0;
-          labels = length-replicate (k .labels) 0;
-          equates = length-replicate (k .equates) 0;
-          items = length-replicate (k .items) 0;
+          image = length-replicate (k .dataBytes) 0;
+          labels = length-replicate (k .labelBytes) 0;
+          equates = length-replicate (k .equateBytes) 0;
+          items = length-replicate (k .itemBytes) 0;
         }

@@ -216,7 +216,7 @@ module _ (t : List ℕ) (k : Lent) where
   enters-fits s σ f = record { labels = f .labels; equates = f .equates; items = f .items; image = f .image; bss = f .bss }
 
   -- more bytes, and the words that stand below them
-  pub append-fits : (bs : List ℕ) (σ : State) → Fits t k σ → length (σ .image) + length bs ≤ min 65536 (k .bytes) → Fits t k (withImage (σ .image ++ bs) σ)
+  pub append-fits : (bs : List ℕ) (σ : State) → Fits t k σ → length (σ .image) + length bs ≤ min 65536 (k .dataBytes) → Fits t k (withImage (σ .image ++ bs) σ)
   append-fits bs σ f room =
       let e = length-append (σ .image) bs in
       record {
@@ -232,7 +232,7 @@ module _ (t : List ℕ) (k : Lent) where
         bss = f .bss;
       }
 
-  pub zeros-fit : (n : ℕ) (σ : State) → Fits t k σ → length (σ .image) + n ≤ min 65536 (k .bytes) → Fits t k (withImage (σ .image ++ replicate n 0) σ)
+  pub zeros-fit : (n : ℕ) (σ : State) → Fits t k σ → length (σ .image) + n ≤ min 65536 (k .dataBytes) → Fits t k (withImage (σ .image ++ replicate n 0) σ)
   zeros-fit n σ f room = append-fits (replicate n 0) σ f (rw (length-replicate {A = ℕ} n 0) room)
 
   -- a move, and what follows it
@@ -244,12 +244,12 @@ module _ (t : List ℕ) (k : Lent) where
     pub add-label-fits : (l : Option Piece) (σ : State) → LabelInside t l → Fits t k σ → MoveFits t k (addLabel k line l σ)
     unfolding addLabel
     add-label-fits l σ unnamed f = f
-    add-label-fits l σ (named {name = name} g) f = by (isLabel (name .bytes) (σ .labels)) (ltb (length (σ .labels)) (min 1024 (k .labels / 16))) refl refl
+    add-label-fits l σ (named {name = name} g) f = by (isLabel (name .bytes) (σ .labels)) (ltb (length (σ .labels)) (min 1024 (k .labelBytes / 16))) refl refl
       where
         x : Label
         x = record { name = name; place = here σ; line = line }
 
-        more : length (recorded x (σ .labels)) ≤ min 1024 (k .labels / 16) → Fits t k (withLabels (recorded x (σ .labels)) σ)
+        more : length (recorded x (σ .labels)) ≤ min 1024 (k .labelBytes / 16) → Fits t k (withLabels (recorded x (σ .labels)) σ)
         more few =
             record {
               labels = record {
@@ -262,7 +262,7 @@ module _ (t : List ℕ) (k : Lent) where
               bss = f .bss;
             }
 
-        by : (a b : Bool) → isLabel (name .bytes) (σ .labels) ≡ a → ltb (length (σ .labels)) (min 1024 (k .labels / 16)) ≡ b
+        by : (a b : Bool) → isLabel (name .bytes) (σ .labels) ≡ a → ltb (length (σ .labels)) (min 1024 (k .labelBytes / 16)) ≡ b
             → MoveFits t k (elim (a || b) [ true ↦ go (withLabels (recorded x (σ .labels)) σ) | false ↦ stop 45 line ])
         by true b p q = more (rw (recorded-known x (σ .labels) p) (f .labels .few))
         by false true p q = more (rw (recorded-new x (σ .labels) p) (ltb-true _ _ q))
@@ -271,12 +271,12 @@ module _ (t : List ℕ) (k : Lent) where
     pub add-equate-fits : (name : Piece) (e : Expression) (σ : State) → Inside t name → Inside t (e .source) → Fits t k σ
         → MoveFits t k (addEquate k line name e σ)
     unfolding addEquate
-    add-equate-fits name e σ g i f = by (ltb (length (σ .equates)) (min 256 (k .equates / 24))) refl
+    add-equate-fits name e σ g i f = by (ltb (length (σ .equates)) (min 256 (k .equateBytes / 24))) refl
       where
         x : Equate
         x = record { name = name; expression = e; place = here σ; line = line }
 
-        by : (c : Bool) → ltb (length (σ .equates)) (min 256 (k .equates / 24)) ≡ c → MoveFits t k (elim c [ true ↦ go (withEquate x σ) | false ↦ stop 46 line ])
+        by : (c : Bool) → ltb (length (σ .equates)) (min 256 (k .equateBytes / 24)) ≡ c → MoveFits t k (elim c [ true ↦ go (withEquate x σ) | false ↦ stop 46 line ])
         by true q =
             record {
               labels = f .labels;
@@ -292,7 +292,7 @@ module _ (t : List ℕ) (k : Lent) where
 
     pub add-item-fits : (item : Option Pseudo) (p : Piece) (σ : State) → Inside t p → Fits t k σ → MoveFits t k (addItem k line item p σ)
     unfolding addItem
-    add-item-fits item p σ g f = by (ltb (length (σ .items)) (min 2048 (k .items / 24))) (leb (σ .words + n) (min 16384 (k .words))) refl refl
+    add-item-fits item p σ g f = by (ltb (length (σ .items)) (min 2048 (k .itemBytes / 24))) (leb (σ .words + n) (min 16384 (k .words))) refl refl
       where
         n : ℕ
         n = reservedWords item (p .bytes)
@@ -300,7 +300,7 @@ module _ (t : List ℕ) (k : Lent) where
         x : ItemLine
         x = record { offset = 4 * σ .words; line = line; item = item; source = p }
 
-        by : (a b : Bool) → ltb (length (σ .items)) (min 2048 (k .items / 24)) ≡ a → leb (σ .words + n) (min 16384 (k .words)) ≡ b
+        by : (a b : Bool) → ltb (length (σ .items)) (min 2048 (k .itemBytes / 24)) ≡ a → leb (σ .words + n) (min 16384 (k .words)) ≡ b
             → MoveFits t k (elim a [ true ↦ elim b [ true ↦ go (withItem n x σ) | false ↦ stop 44 line ] | false ↦ stop 48 line ])
         by true true q r =
             let room : σ .words + n ≤ min 16384 (k .words) = leb-true _ _ r in
@@ -326,16 +326,16 @@ module _ (t : List ℕ) (k : Lent) where
     text-line-fits p (pseudo q) σ g f = add-item-fits (some q) p σ g f
 
     -- data: where there is room for what is appended
-    pub add-data-fits : (n : ℕ) (f : State → Move) (σ : State) → (length (σ .image) + n ≤ min 65536 (k .bytes) → MoveFits t k (f σ))
+    pub add-data-fits : (n : ℕ) (f : State → Move) (σ : State) → (length (σ .image) + n ≤ min 65536 (k .dataBytes) → MoveFits t k (f σ))
         → MoveFits t k (addData k line n f σ)
     unfolding addData
-    add-data-fits n f σ more = by (leb (length (σ .image) + n) (min 65536 (k .bytes))) refl
+    add-data-fits n f σ more = by (leb (length (σ .image) + n) (min 65536 (k .dataBytes))) refl
       where
-        by : (c : Bool) → leb (length (σ .image) + n) (min 65536 (k .bytes)) ≡ c → MoveFits t k (elim c [ true ↦ f σ | false ↦ stop 42 line ])
+        by : (c : Bool) → leb (length (σ .image) + n) (min 65536 (k .dataBytes)) ≡ c → MoveFits t k (elim c [ true ↦ f σ | false ↦ stop 42 line ])
         by true q = more (leb-true _ _ q)
         by false q = h
 
-    pub add-label-word-fits : (name : List ℕ) (σ : State) → Fits t k σ → length (σ .image) + 4 ≤ min 65536 (k .bytes) → MoveFits t k (addLabelWord line name σ)
+    pub add-label-word-fits : (name : List ℕ) (σ : State) → Fits t k σ → length (σ .image) + 4 ≤ min 65536 (k .dataBytes) → MoveFits t k (addLabelWord line name σ)
     unfolding addLabelWord
     add-label-word-fits name σ f room = by (ltb (length (σ .labelWords)) 1024) refl
       where

@@ -62,10 +62,6 @@ put-part-of at n src d e h =
     ∙ ap (λ (a : List ℕ). take at d ++ src ++ a) (drop-drop n at d)
     ∙ ap (λ (m : ℕ). take at d ++ src ++ drop (at + m) d) (sym e)
 
-pub put-part : (at : ℕ) (src d : List ℕ) → at + length src ≤ length d
-    → take at d ++ ((src ++ drop (length src) (take (length d - at) (drop at d))) ++ drop (length d - at) (drop at d)) ≡ put at src d
-put-part at src d h = put-part-of at (length src) src d refl h
-
 -- the part that is lent runs to the end
 pub length-mid : (at : ℕ) (d : List ℕ) → length (take (length d - at) (drop at d)) ≡ length d - at
 length-mid at d = length-take-le (length d - at) (drop at d) (rw (length-drop at d) (omega arith))
@@ -263,12 +259,6 @@ module _ {A : Type 0} (f : A → List ℕ) (n : ℕ) where
         ∙ ap (put at (f r)) (simp append-assoc)
         ∙ put-over front old (f r) (rest ++ zs) at (e ∙ sym (records-front rs k g h)) (each-at (λ r. length (f r) ≡ n) rs r k g h ∙ sym l)
         ∙ sym (ap (λ (bs : List ℕ). bs ++ zs) (records-set rs k r h) ∙ simp append-assoc)
-
-    -- the kth record
-    pub record-at : (d : A) → take n (drop (k * n) (together (map f rs) ++ zs)) ≡ f (getD rs k d)
-    record-at d =
-        ap (take n) (records-from d)
-        ∙ take-at (f (getD rs k d)) (together (map f (drop (suc k) rs)) ++ zs) n (each-at (λ r. length (f r) ≡ n) rs d k g h)
 
 -- the jth field of the kth record is read back: f gives a record's fields
 pub read-field : {A : Type 0} (f : A → List ℕ) (n : ℕ) (rs : List A) (zs : List ℕ) (d : A) (k j at : ℕ)

@@ -110,8 +110,8 @@ module _ (t : List ℕ) (k : Lent) (c : Counters) (σ : State) where
 
   module _ (l e x i m f : List ℕ) (s : Stands t k c (store l e x i m f) σ) where
     -- as many bytes are lent as the buffer has
-    pub image-lent : length m ≡ k .bytes
-    image-lent = ap length (s .bytes) ∙ length-padded (k .bytes) (σ .image) (omega (arith, s .fits .image .room))
+    pub image-lent : length m ≡ k .dataBytes
+    image-lent = ap length (s .bytes) ∙ length-padded (k .dataBytes) (σ .image) (omega (arith, s .fits .image .room))
 
     -- bytes stored right after those that are there
     pub append-stands : (bs m′ : List ℕ) (n : ℕ) → n ≡ length bs → c .image + n ≤ min 65536 (length m) → m′ ≡ put (c .image) bs m
@@ -131,12 +131,12 @@ module _ (t : List ℕ) (k : Lent) (c : Counters) (σ : State) where
           equate-table = s .equate-table;
           expression-table = s .expression-table;
           item-table = s .item-table;
-          bytes = g ∙ ap (put (c .image) bs) (s .bytes) ∙ put-pad (k .bytes) (c .image) (σ .image) bs (s .image);
+          bytes = g ∙ ap (put (c .image) bs) (s .bytes) ∙ put-pad (k .dataBytes) (c .image) (σ .image) bs (s .image);
           fixup-table = s .fixup-table;
         }
 
     -- what the test of the room says of the definition's
-    pub room-is : (n : ℕ) → leb (c .image + n) (min 65536 (length m)) ≡ leb (length (σ .image) + n) (min 65536 (k .bytes))
+    pub room-is : (n : ℕ) → leb (c .image + n) (min 65536 (length m)) ≡ leb (length (σ .image) + n) (min 65536 (k .dataBytes))
     room-is n = rw (s .image, image-lent) refl
 
     pub data-full : (line n : ℕ) (move : State → Move) (b : Store) → leb (c .image + n) (min 65536 (length m)) ≡ false
@@ -197,7 +197,7 @@ module _ (t : List ℕ) (k : Lent) (c : Counters) (σ : State) where
       unfolding dataWrite addLabelWord
       address-goes name m′ f′ here within h g q r =
           let few : length (σ .labelWords) < 1024 = rw (← s .fixups) g in
-          let room : length (σ .image) + 4 ≤ min 65536 (k .bytes) = rw (← s .image, ← image-lent) (leb-true _ _ h) in
+          let room : length (σ .image) + 4 ≤ min 65536 (k .dataBytes) = rw (← s .image, ← image-lent) (leb-true _ _ h) in
           let moved = append-stands (replicate 4 0) m′ 4 refl (leb-true _ _ h) q in
           let table = s .fixup-table in
           let x : Fixup = record { at = c .image; name = name; line = line } in

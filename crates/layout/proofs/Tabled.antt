@@ -226,8 +226,8 @@ module _ (t : List ℕ) (k : Lent) (c : Counters) (σ : State) (l e x i m f : Li
 
   -- ---- labels
 
-  label-lent : length l ≡ k .labels
-  label-lent = ap length (s .label-table) ∙ table-length labelFields 16 (λ l. refl) (k .labels) (σ .labels) (omega (arith, s .fits .labels .few))
+  label-lent : length l ≡ k .labelBytes
+  label-lent = ap length (s .label-table) ∙ table-length labelFields 16 (λ l. refl) (k .labelBytes) (σ .labels) (omega (arith, s .fits .labels .few))
 
   -- the labels' buffer is a table of the labels
   pub labels-tabled : LabelTable t l (c .labels) (σ .labels)
@@ -238,7 +238,7 @@ module _ (t : List ℕ) (k : Lent) (c : Counters) (σ : State) (l e x i m f : Li
       → labelFound 0 n′ (σ .labels) ≡ d
   searched r d n n′ p h g = rw (← p) (sym (h (σ .labels) labels-tabled) ∙ g)
 
-  labels-stand : (ls : List Label) (n : ℕ) (l′ : List ℕ) → n ≡ length ls → l′ ≡ tableOf (k .labels) labelFields ls → Fits t k (withLabels ls σ)
+  labels-stand : (ls : List Label) (n : ℕ) (l′ : List ℕ) → n ≡ length ls → l′ ≡ tableOf (k .labelBytes) labelFields ls → Fits t k (withLabels ls σ)
       → Stands t k (labelsAt n c) (store l′ e x i m f) (withLabels ls σ)
   labels-stand ls n l′ count table fits =
       record {
@@ -265,7 +265,7 @@ module _ (t : List ℕ) (k : Lent) (c : Counters) (σ : State) (l e x i m f : Li
     label-bytes place p = rw (within-size t q w, p) (ap (λ (h : Place). fieldBytes (q .start ∷ q .len ∷ placeCode h ∷ line ∷ [])) place-is)
 
     label-goes : (n : ℕ) (l′ : List ℕ) → addLabel k line (some (pieceAt t q)) σ ≡ go (withLabels (recorded (labelHere t line q σ) (σ .labels)) σ)
-        → n ≡ length (recorded (labelHere t line q σ) (σ .labels)) → l′ ≡ tableOf (k .labels) labelFields (recorded (labelHere t line q σ) (σ .labels))
+        → n ≡ length (recorded (labelHere t line q σ) (σ .labels)) → l′ ≡ tableOf (k .labelBytes) labelFields (recorded (labelHere t line q σ) (σ .labels))
         → Agrees t k line (store l′ e x i m f) (Go (labelsAt n c)) (addLabel k line (some (pieceAt t q)) σ)
     label-goes n l′ goes count table =
         rw goes
@@ -283,8 +283,8 @@ module _ (t : List ℕ) (k : Lent) (c : Counters) (σ : State) (l e x i m f : Li
           label-goes (c .labels) l′ (rw (addLabel, r .known) refl)
           (s .labels ∙ sym (ap length (r .replaced) ∙ length-set (σ .labels) j (labelHere t line q σ)))
           (g ∙ ap₂ (put (j * 16)) (label-bytes place p) (s .label-table)
-          ∙ table-set labelFields 16 (λ l. refl) (k .labels) (σ .labels) j (labelHere t line q σ) (r .below)
-          ∙ ap (tableOf (k .labels) labelFields) (sym (r .replaced)))
+          ∙ table-set labelFields 16 (λ l. refl) (k .labelBytes) (σ .labels) j (labelHere t line q σ) (r .below)
+          ∙ ap (tableOf (k .labelBytes) labelFields) (sym (r .replaced)))
 
       -- there is none, and room for one more
       pub label-new : labelFound 0 (spanned t q) (σ .labels) ≡ found.Nothing → ltb (c .labels) (min 1024 (length l / 16)) ≡ true
@@ -296,8 +296,8 @@ module _ (t : List ℕ) (k : Lent) (c : Counters) (σ : State) (l e x i m f : Li
           label-goes (c .labels + 1) l′ (rw (addLabel, r .unknown, ← s .labels, ← label-lent, room) refl)
           (rw (r .more, length-append (σ .labels) (labelHere t line q σ ∷ []), s .labels) refl)
           (g ∙ ap₂ (put (c .labels * 16)) (label-bytes place p) (s .label-table)
-          ∙ table-more labelFields 16 (λ l. refl) (k .labels) (σ .labels) (c .labels) (labelHere t line q σ) (s .labels)
-          ∙ ap (tableOf (k .labels) labelFields) (sym (r .more)))
+          ∙ table-more labelFields 16 (λ l. refl) (k .labelBytes) (σ .labels) (c .labels) (labelHere t line q σ) (s .labels)
+          ∙ ap (tableOf (k .labelBytes) labelFields) (sym (r .more)))
 
   -- there is none, and no room
   pub label-full : (line : ℕ) (q : Span) (b : Store) → labelFound 0 (spanned t q) (σ .labels) ≡ found.Nothing → ltb (c .labels) (min 1024 (length l / 16)) ≡ false
@@ -307,8 +307,8 @@ module _ (t : List ℕ) (k : Lent) (c : Counters) (σ : State) (l e x i m f : Li
 
   -- ---- equates
 
-  equate-lent : length e ≡ k .equates
-  equate-lent = ap length (s .equate-table) ∙ table-length equateFields 24 (λ y. refl) (k .equates) (σ .equates) (omega (arith, s .fits .equates .few))
+  equate-lent : length e ≡ k .equateBytes
+  equate-lent = ap length (s .equate-table) ∙ table-length equateFields 24 (λ y. refl) (k .equateBytes) (σ .equates) (omega (arith, s .fits .equates .few))
 
   pub equate-full : (line : ℕ) (name : Piece) (source : Expression) (b : Store) → ltb (c .equates) (min 256 (length e / 24)) ≡ false
       → Agrees t k line b (Stop 46) (addEquate k line name source σ)
@@ -341,7 +341,7 @@ module _ (t : List ℕ) (k : Lent) (c : Counters) (σ : State) (l e x i m f : Li
           fits = rw goes at (add-equate-fits t k line below (y .name) (y .expression) σ (within-inside t name w) (within-inside t source v) (s .fits));
           label-table = s .label-table;
           equate-table = g ∙ ap₂ (put (c .equates * 24)) parts (s .equate-table)
-              ∙ table-more equateFields 24 (λ y. refl) (k .equates) (σ .equates) (c .equates) y (s .equates);
+              ∙ table-more equateFields 24 (λ y. refl) (k .equateBytes) (σ .equates) (c .equates) y (s .equates);
           expression-table = h ∙ ap₂ (put (c .equates * 16)) rest (s .expression-table)
               ∙ table-more expressionFields 16 (λ y. refl) expressionRoom (σ .equates) (c .equates) y (s .equates);
           item-table = s .item-table;
@@ -351,8 +351,8 @@ module _ (t : List ℕ) (k : Lent) (c : Counters) (σ : State) (l e x i m f : Li
 
   -- ---- items
 
-  item-lent : length i ≡ k .items
-  item-lent = ap length (s .item-table) ∙ table-length itemFields 24 (λ y. refl) (k .items) (σ .items) (omega (arith, s .fits .items .few))
+  item-lent : length i ≡ k .itemBytes
+  item-lent = ap length (s .item-table) ∙ table-length itemFields 24 (λ y. refl) (k .itemBytes) (σ .items) (omega (arith, s .fits .items .few))
 
   module _ (line : ℕ) (item : Option Pseudo) (source : Span) where
     pub item-full : (b : Store) → ltb (c .items) (min 2048 (length i / 24)) ≡ false → Agrees t k line b (Stop 48) (addItem k line item (pieceAt t source) σ)
@@ -390,7 +390,7 @@ module _ (t : List ℕ) (k : Lent) (c : Counters) (σ : State) (l e x i m f : Li
             equate-table = s .equate-table;
             expression-table = s .expression-table;
             item-table = g ∙ ap₂ (put (c .items * 24)) parts (s .item-table)
-                ∙ table-more itemFields 24 (λ y. refl) (k .items) (σ .items) (c .items) y (s .items);
+                ∙ table-more itemFields 24 (λ y. refl) (k .itemBytes) (σ .items) (c .items) y (s .items);
             bytes = s .bytes;
             fixup-table = s .fixup-table;
           })

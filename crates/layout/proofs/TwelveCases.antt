@@ -1,11 +1,11 @@
 -- The twelve numbered cases of document 01, "Proved table and bench program", by computing on the definitions; base 0 and buffers of every
 -- limit's full size.
-use Prim.Native.Nat.{ℕ}
+use Prim.Native.Nat.{ℕ, _*_}
 use mathlib.Core.Path.{_≡_, refl}
 use mathlib.Core.List.{List, [], _∷_}
 use lib.IntN.{pos}
 use Rattle.layout.specs.Pieces.{piece}
-use Rattle.layout.specs.Stage.{Lent}
+use Rattle.layout.specs.Stage.{Lent, wordLimit, dataLimit, labelLimit, equateLimit, itemLimit, labelSize, equateSize, itemSize}
 use Rattle.layout.specs.Layouts.{Outcome, accepted, refused}
 use Rattle.numbers.specs.Ints.{fit64}
 use Rattle.numbers.specs.Literals.{charLitOf, isString, unquoted, strLitOf}
@@ -25,7 +25,13 @@ use Rattle.layout.specs.Stage.{isLabel, recorded, addLabel, addEquate, a
 use Rattle.layout.specs.Statements.{startsWithAny, countBefore, sectionNamed, sectionOf, sectionLine, symbolAfter, globalOf, equateOf, equOf, assignmentOf, unlabelledOf, labelled, lineOf}
 
 abbrev pub full : Lent
-full = record { words = 16384; bytes = 65536; labels = 16384; equates = 6144; items = 49152 }
+full = record {
+  words = wordLimit;
+  dataBytes = dataLimit;
+  labelBytes = labelLimit * labelSize;
+  equateBytes = equateLimit * equateSize;
+  itemBytes = itemLimit * itemSize;
+}
 
 -- what a case says: words or data, or the refusal
 pub data Said : Type 0 where

@@ -60,7 +60,7 @@ abbrev pub consWord : ℕ → Emission → Emission
 consWord w (emits ws) = emits (w ∷ ws)
 consWord w (refuses n) = refuses n
 
--- no expansion is refused by the encoder (22, 23): to be proved; the case is there because Answer has it
+-- the encoder refuses no expansion (proofs/Emissions.antt: `emission-refused`); the case is there because Answer has it
 abbrev pub onAnswer : Answer → Emission → Emission
 onAnswer (word w) e = consWord w e
 onAnswer (enc.refused n) e = refuses n
@@ -140,12 +140,19 @@ abbrev pub afterBytes : List ℕ → ℕ → Lent → Option ℕ → Outcome
 afterBytes t base k (some line) = refused 1 line
 afterBytes t base k none = afterLines base (lineStage k 0 (linePieces 0 (lines t)) start)
 
--- "40, 41, 1; then lines in order"; "40 base above 0xFF000000, line 0. 41 text above 65,536 bytes, line 0"
+-- "40 base above 0xFF000000, line 0. 41 text above 65,536 bytes, line 0"
+abbrev pub baseLimit : ℕ
+baseLimit = 0xFF000000
+
+abbrev pub textLimit : ℕ
+textLimit = 65536
+
+-- "40, 41, 1; then lines in order"
 unfoldable pub layoutOf : List ℕ → ℕ → Lent → Outcome
 layoutOf t base k =
-    elim (ltb 0xFF000000 base) [
+    elim (ltb baseLimit base) [
       | true ↦ refused 40 0
-      | false ↦ elim (ltb 65536 (length t)) [ true ↦ refused 41 0 | false ↦ afterBytes t base k (highByte 0 t) ]
+      | false ↦ elim (ltb textLimit (length t)) [ true ↦ refused 41 0 | false ↦ afterBytes t base k (highByte 0 t) ]
     ]
 
 -- ---- records: "Little-endian, one fixed size, no header, fields of 4 bytes unless said"
@@ -205,15 +212,15 @@ together (r ∷ rs) = r ++ together rs
 abbrev pub buffersOf : Lent → Outcome → Buffers
 buffersOf k (accepted l) = record {
   words = padded (k .words) (l .words);
-  image = padded (k .bytes) (l .image);
-  labels = padded (k .labels) (together (map labelRecord (l .labels)));
-  equates = padded (k .equates) (together (map equateRecord (l .equates)));
-  items = padded (k .items) (together (map itemRecord (l .items)));
+  image = padded (k .dataBytes) (l .image);
+  labels = padded (k .labelBytes) (together (map labelRecord (l .labels)));
+  equates = padded (k .equateBytes) (together (map equateRecord (l .equates)));
+  items = padded (k .itemBytes) (together (map itemRecord (l .items)));
 }
 buffersOf k (refused n line) = record {
   words = replicate (k .words) 0;
-  image = replicate (k .bytes) 0;
-  labels = replicate (k .labels) 0;
-  equates = replicate (k .equates) 0;
-  items = replicate (k .items) 0;
+  image = replicate (k .dataBytes) 0;
+  labels = replicate (k .labelBytes) 0;
+  equates = replicate (k .equateBytes) 0;
+  items = replicate (k .itemBytes) 0;
 }

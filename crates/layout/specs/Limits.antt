@@ -8,7 +8,7 @@ use Rattle.layout.specs.declared.line.Section.{Section}
 use Rattle.layout.specs.declared.line.Section.the-variants as section
 use Rattle.layout.specs.Pieces.{Piece}
 use Rattle.layout.specs.Pseudos.{reservedWords}
-use Rattle.layout.specs.Stage.{Lent, Label, Equate, ItemLine, LabelWord, State}
+use Rattle.layout.specs.Stage.{Lent, wordLimit, dataLimit, bssLimit, labelLimit, equateLimit, labelWordLimit, itemLimit, labelSize, equateSize, itemSize, Label, Equate, ItemLine, LabelWord, State}
 
 -- a property of every element of a list
 abbrev pub Each : {A : Type 0} → (A → Type 0) → List A → Type 0
@@ -22,9 +22,9 @@ pub record Inside (t : List ℕ) (p : Piece) : Type 0 where
 
 -- the most bytes that a section holds
 abbrev pub limit : Section → ℕ
-limit section.Text = 65536
-limit section.Data = 65536
-limit section.Bss = 1048576
+limit section.Text = 4 * wordLimit
+limit section.Data = dataLimit
+limit section.Bss = bssLimit
 
 pub record LabelFits (t : List ℕ) (l : Label) : Type 0 where
   pub name : Inside t (l .name)
@@ -55,23 +55,23 @@ reservedIn (x ∷ xs) = reservedWords (x .item) (x .source .bytes) + reservedIn 
 
 -- each kind of record within its limit and what is lent for it
 pub record LabelsFit (t : List ℕ) (k : Lent) (ls : List Label) : Type 0 where
-  pub few : length ls ≤ min 1024 (k .labels / 16)
+  pub few : length ls ≤ min labelLimit (k .labelBytes / labelSize)
   pub each : Each (LabelFits t) ls
 
 pub record EquatesFit (t : List ℕ) (k : Lent) (es : List Equate) : Type 0 where
-  pub few : length es ≤ min 256 (k .equates / 24)
+  pub few : length es ≤ min equateLimit (k .equateBytes / equateSize)
   pub each : Each (EquateFits t) es
 
 -- and the text's words, which are those that its items reserve
 pub record ItemsFit (t : List ℕ) (k : Lent) (words : ℕ) (xs : List ItemLine) : Type 0 where
-  pub room : words ≤ min 16384 (k .words)
+  pub room : words ≤ min wordLimit (k .words)
   pub sum : words ≡ reservedIn xs
-  pub few : length xs ≤ min 2048 (k .items / 24)
+  pub few : length xs ≤ min itemLimit (k .itemBytes / itemSize)
   pub each : Each (ItemFits t) xs
 
 pub record ImageFits (t : List ℕ) (k : Lent) (image : List ℕ) (ws : List LabelWord) : Type 0 where
-  pub room : length image ≤ min 65536 (k .bytes)
-  pub few : length ws ≤ 1024
+  pub room : length image ≤ min dataLimit (k .dataBytes)
+  pub few : length ws ≤ labelWordLimit
   pub each : Each (LabelWordFits t (length image)) ws
 
 -- what has been laid out fits

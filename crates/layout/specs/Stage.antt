@@ -16,13 +16,45 @@ use Rattle.layout.specs.Statements.{Expression, Statement, lineOf}
 use Rattle.layout.specs.Pseudos.{Item, ordinary, pseudo, other, itemOf, reservedWords}
 use Rattle.layout.specs.Directives.{Write, stores, zeros, aligns, addressOf, wrong, dataWrites, bssWrite, aligned}
 
--- what the caller lends: the words, and the bytes of data and of the three kinds of record
+-- what the caller lends: so many words, and so many bytes for the data and the three kinds of record
 pub record Lent : Type 0 where
   pub words : ℕ
-  pub bytes : ℕ
-  pub labels : ℕ
-  pub equates : ℕ
-  pub items : ℕ
+  pub dataBytes : ℕ
+  pub labelBytes : ℕ
+  pub equateBytes : ℕ
+  pub itemBytes : ℕ
+
+-- the limits, as "Refused because of the state" has them, whatever is lent
+abbrev pub wordLimit : ℕ
+wordLimit = 16384
+
+abbrev pub dataLimit : ℕ
+dataLimit = 65536
+
+abbrev pub bssLimit : ℕ
+bssLimit = 1048576
+
+abbrev pub labelLimit : ℕ
+labelLimit = 1024
+
+abbrev pub equateLimit : ℕ
+equateLimit = 256
+
+abbrev pub labelWordLimit : ℕ
+labelWordLimit = 1024
+
+abbrev pub itemLimit : ℕ
+itemLimit = 2048
+
+-- a record's bytes: "Label, 16 bytes", "Equate, 24 bytes", "Item, 24 bytes"
+abbrev pub labelSize : ℕ
+labelSize = 16
+
+abbrev pub equateSize : ℕ
+equateSize = 24
+
+abbrev pub itemSize : ℕ
+itemSize = 24
 
 -- a section and the bytes reserved there above: an address once the sections' starts are known
 pub record Place : Type 0 where
@@ -121,7 +153,7 @@ recorded x (l ∷ ls) = elim (same (l .name .bytes) (x .name .bytes)) [ true ↦
 unfoldable pub addLabel : Lent → ℕ → Option Piece → State → Move
 addLabel k line none σ = go σ
 addLabel k line (some name) σ =
-    elim (isLabel (name .bytes) (σ .labels) || ltb (length (σ .labels)) (min 1024 (k .labels / 16))) [
+    elim (isLabel (name .bytes) (σ .labels) || ltb (length (σ .labels)) (min labelLimit (k .labelBytes / labelSize))) [
       | true ↦ go (withLabels (recorded (record { name = name; place = here σ; line = line }) (σ .labels)) σ)
       | false ↦ stop 45 line
     ]
@@ -129,7 +161,7 @@ addLabel k line (some name) σ =
 -- "46 equates above 256 or the lent records"
 unfoldable pub addEquate : Lent → ℕ → Piece → Expression → State → Move
 addEquate k line name expression σ =
-    elim (ltb (length (σ .equates)) (min 256 (k .equates / 24))) [
+    elim (ltb (length (σ .equates)) (min equateLimit (k .equateBytes / equateSize))) [
       | true ↦ go (withEquate (record { name = name; expression = expression; place = here σ; line = line }) σ)
       | false ↦ stop 46 line
     ]
@@ -137,8 +169,8 @@ addEquate k line name expression σ =
 -- "48 items above 2,048 or the lent records", then "44 reserved words above 16,384 or the lent length"
 unfoldable pub addItem : Lent → ℕ → Option Pseudo → Piece → State → Move
 addItem k line item source σ =
-    elim (ltb (length (σ .items)) (min 2048 (k .items / 24))) [
-      | true ↦ elim (leb (σ .words + reservedWords item (source .bytes)) (min 16384 (k .words))) [
+    elim (ltb (length (σ .items)) (min itemLimit (k .itemBytes / itemSize))) [
+      | true ↦ elim (leb (σ .words + reservedWords item (source .bytes)) (min wordLimit (k .words))) [
         | true ↦ go (withItem (reservedWords item (source .bytes)) (record { offset = 4 * σ .words; line = line; item = item; source = source }) σ)
         | false ↦ stop 44 line
       ]
@@ -153,7 +185,7 @@ textLine k line p (pseudo q) σ = addItem k line (some q) p σ
 
 -- "42 data above 65,536 bytes or the lent length": n bytes more, and what they are
 unfoldable pub addData : Lent → ℕ → ℕ → (State → Move) → State → Move
-addData k line n f σ = elim (leb (length (σ .image) + n) (min 65536 (k .bytes))) [ true ↦ f σ | false ↦ stop 42 line ]
+addData k line n f σ = elim (leb (length (σ .image) + n) (min dataLimit (k .dataBytes))) [ true ↦ f σ | false ↦ stop 42 line ]
 
 abbrev pub append : List ℕ → State → Move
 append bs σ = go (withImage (σ .image ++ bs) σ)
@@ -161,7 +193,7 @@ append bs σ = go (withImage (σ .image ++ bs) σ)
 -- "then 42, then 47": "47 label words above 1,024"
 unfoldable pub addLabelWord : ℕ → List ℕ → State → Move
 addLabelWord line name σ =
-    elim (ltb (length (σ .labelWords)) 1024) [
+    elim (ltb (length (σ .labelWords)) labelWordLimit) [
       | true ↦ append (0 ∷ 0 ∷ 0 ∷ 0 ∷ []) (withLabelWord (record { at = length (σ .image); name = name; line = line }) σ)
       | false ↦ stop 47 line
     ]
@@ -181,7 +213,7 @@ dataLine k line (w ∷ ws) σ = andThen (dataWrite k line w σ) (dataLine k line
 
 -- "43 bss above 1,048,576"
 unfoldable pub growBss : ℕ → ℕ → State → Move
-growBss line n σ = elim (leb n 1048576) [ true ↦ go (withBss n σ) | false ↦ stop 43 line ]
+growBss line n σ = elim (leb n bssLimit) [ true ↦ go (withBss n σ) | false ↦ stop 43 line ]
 
 -- "in bss the operand's check, then 43"; nothing is stored there
 unfoldable pub bssLine : ℕ → Write → State → Move

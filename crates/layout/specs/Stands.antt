@@ -3,7 +3,7 @@ use Prim.Native.Nat.{ℕ, suc, _+_, _*_, _≤_, _<_}
 use mathlib.Core.Path.{_≡_}
 use mathlib.Core.List.{List, [], _∷_, map}
 use mathlib.Core.Bool.{true, false}
-use lib.ListN.{length, take, drop}
+use lib.ListN.{length, take, drop, replicate}
 use Rattle.numbers.specs.declared.text.Span.{Span}
 use Rattle.numbers.specs.Text.{same, spanned}
 use Rattle.layout.specs.declared.line.Section.{Section}
@@ -19,9 +19,10 @@ use Rattle.layout.specs.declared.stage.Step.{Step}
 use Rattle.layout.specs.declared.stage.Step.the-variants.{Go, Stop}
 use Rattle.layout.specs.declared.stage.Stage.{Stage}
 use Rattle.layout.specs.declared.stage.Stage.the-variants.{Through, Refused}
-use Rattle.layout.specs.Stage.{Lent, Place, Label, LabelWord, State, Move, go, stop}
+use Rattle.layout.specs.Stage.{Lent, wordLimit, dataLimit, bssLimit, labelLimit, equateLimit, labelWordLimit, itemLimit, Place, Label, LabelWord, State, Move, go, stop, start, lineStage}
+use Rattle.layout.specs.Pieces.{lines, linePieces}
 use Rattle.layout.specs.Limits.{Each, LabelFits, Fits}
-use Rattle.layout.specs.Layouts.{padded, together}
+use Rattle.layout.specs.Layouts.{textLimit, padded, together}
 use Rattle.layout.specs.Tables.{leValue, fieldBytes, labelFields, equateFields, expressionFields, itemFields}
 
 -- the buffers that the stage writes; expressions and fixups are its own
@@ -49,12 +50,12 @@ labelWordOf t x = record { at = x .at; name = spanned t (x .name); line = x .lin
 abbrev pub tableOf : {A : Type 0} → ℕ → (A → List ℕ) → List A → List ℕ
 tableOf n fields xs = padded n (together (map (λ x. fieldBytes (fields x)) xs))
 
--- the bytes that 256 expressions and 1,024 fixups take
+-- the bytes that the expressions and the fixups take, 16 each
 abbrev pub expressionRoom : ℕ
-expressionRoom = 4096
+expressionRoom = equateLimit * 16
 
 abbrev pub fixupRoom : ℕ
-fixupRoom = 16384
+fixupRoom = labelWordLimit * 16
 
 -- the fixups in a table, which are the label words of w
 pub record FixupTable (t : List ℕ) (table : List ℕ) (w : List LabelWord) : Type 0 where
@@ -73,22 +74,22 @@ pub record Stands (t : List ℕ) (k : Lent) (c : Counters) (b : Store) (σ : Sta
   pub items : c .items ≡ length (σ .items)
   pub fixups : c .fixups ≡ length (σ .labelWords)
   pub fits : Fits t k σ
-  pub label-table : b .labels ≡ tableOf (k .labels) labelFields (σ .labels)
-  pub equate-table : b .equates ≡ tableOf (k .equates) equateFields (σ .equates)
+  pub label-table : b .labels ≡ tableOf (k .labelBytes) labelFields (σ .labels)
+  pub equate-table : b .equates ≡ tableOf (k .equateBytes) equateFields (σ .equates)
   pub expression-table : b .expressions ≡ tableOf expressionRoom expressionFields (σ .equates)
-  pub item-table : b .items ≡ tableOf (k .items) itemFields (σ .items)
-  pub bytes : b .image ≡ padded (k .bytes) (σ .image)
+  pub item-table : b .items ≡ tableOf (k .itemBytes) itemFields (σ .items)
+  pub bytes : b .image ≡ padded (k .dataBytes) (σ .image)
   pub fixup-table : FixupTable t (b .fixups) (σ .labelWords)
 
 -- the counters are within the limits, whatever is lent
 pub record Bounded (c : Counters) : Type 0 where
-  pub words : c .words ≤ 16384
-  pub image : c .image ≤ 65536
-  pub bss : c .bss ≤ 1048576
-  pub labels : c .labels ≤ 1024
-  pub equates : c .equates ≤ 256
-  pub items : c .items ≤ 2048
-  pub fixups : c .fixups ≤ 1024
+  pub words : c .words ≤ wordLimit
+  pub image : c .image ≤ dataLimit
+  pub bss : c .bss ≤ bssLimit
+  pub labels : c .labels ≤ labelLimit
+  pub equates : c .equates ≤ equateLimit
+  pub items : c .items ≤ itemLimit
+  pub fixups : c .fixups ≤ labelWordLimit
 
 -- and so they are after a step
 abbrev pub StepBounded : Step → Type 0
@@ -138,7 +139,25 @@ DataSteps t line c image fixups image′ fixups′ r move =
 
 -- what the caller lends
 abbrev pub lentOf : ℕ → Store → Lent
-lentOf room b = record { words = room; bytes = length (b .image); labels = length (b .labels); equates = length (b .equates); items = length (b .items) }
+lentOf room b =
+    record {
+      words = room;
+      dataBytes = length (b .image);
+      labelBytes = length (b .labels);
+      equateBytes = length (b .equates);
+      itemBytes = length (b .items);
+    }
+
+-- the whole stage, into buffers b, which come out as b′
+abbrev pub StageGives : List ℕ → ℕ → Store → Store → Stage → Type 0
+StageGives t room b b′ r = StageAgrees t (lentOf room b) b′ r (lineStage (lentOf room b) 0 (linePieces 0 (lines t)) start)
+
+abbrev pub Zeros : List ℕ → Type 0
+Zeros b = b ≡ replicate (length b) 0
+
+-- a line of a text that is not too long
+abbrev pub LineIn : List ℕ → ℕ → Type 0
+LineIn t line = (length t ≤ textLimit) × (line < length t)
 
 -- the present place
 abbrev pub offsetOf : Section → Counters → ℕ

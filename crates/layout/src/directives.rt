@@ -34,7 +34,7 @@ ghost use Rattle.layout.specs.Directives.{le, stores, zeros, addressOf, 
 ghost use Rattle.layout.specs.Directives.{isLabelStart, isLabelName, sizeWrite, alignWrite, stringWrite, bssWrite};
 ghost use Rattle.layout.specs.Directives.{stringOrSpace, dataWrites, storedDirectives, aligned};
 ghost use Rattle.layout.specs.Stage.{dataWrite, dataLine, growBss, bssLine};
-ghost use Rattle.layout.specs.Stands.{Bounded, StepBounded, CounterSteps, ImageSteps, DataSteps, SpanWithin, fixupRoom};
+ghost use Rattle.layout.specs.Stands.{Bounded, StepBounded, CounterSteps, ImageSteps, DataSteps, SpanWithin, fixupRoom, LineIn};
 ghost use Rattle.layout.specs.Kinds.{writesOf, NameWithin, spaceOf, alignmentOf, NotZero};
 
 pub enum Width {
@@ -188,7 +188,7 @@ fn store_label_word(
     line: u32,
     name: Span,
 ) -> Step
-    requires { ⌜ Bounded st × (length (now fixups) ≡ fixupRoom) × (length (now text) ≤ 65536) × (line < length (now text)) × SpanWithin (now text) name ⌝ }
+    requires { ⌜ Bounded st × (length (now fixups) ≡ fixupRoom) × LineIn (now text) line × SpanWithin (now text) name ⌝ }
     ensures { λ r. ⌜ (DataSteps (now (text .entry)) line st (now (image .entry)) (now (fixups .entry)) (now (image .exit)) (now (fixups .exit)) r (λ k σ. dataWrite k line (addressOf (spanned (now (text .entry)) name)) σ)) × StepBounded r ⌝ }
 {
     let at = st.image;
@@ -224,7 +224,7 @@ fn unread_operand(
     width: Width,
     operand: Span,
 ) -> Step
-    requires { ⌜ Bounded st × (length (now fixups) ≡ fixupRoom) × (length (now text) ≤ 65536) × (line < length (now text)) × SpanWithin (now text) operand ⌝ }
+    requires { ⌜ Bounded st × (length (now fixups) ≡ fixupRoom) × LineIn (now text) line × SpanWithin (now text) operand ⌝ }
     ensures { λ r. ⌜ (DataSteps (now (text .entry)) line st (now (image .entry)) (now (fixups .entry)) (now (image .exit)) (now (fixups .exit)) r (λ k σ. dataWrite k line (unread width (spanned (now (text .entry)) operand)) σ)) × StepBounded r ⌝ }
 {
     let Width::Word = width else {
@@ -245,7 +245,7 @@ fn number_operand(
     width: Width,
     operand: Span,
 ) -> Step
-    requires { ⌜ Bounded st × (length (now fixups) ≡ fixupRoom) × (length (now text) ≤ 65536) × (line < length (now text)) × SpanWithin (now text) operand ⌝ }
+    requires { ⌜ Bounded st × (length (now fixups) ≡ fixupRoom) × LineIn (now text) line × SpanWithin (now text) operand ⌝ }
     ensures { λ r. ⌜ (DataSteps (now (text .entry)) line st (now (image .entry)) (now (fixups .entry)) (now (image .exit)) (now (fixups .exit)) r (λ k σ. dataWrite k line (numberWrite width (readAt width (spanned (now (text .entry)) operand)) (spanned (now (text .entry)) operand)) σ)) × StepBounded r ⌝ }
 {
     let Imm64::Value(v) = width.read(span_bytes(text, operand)) else {
@@ -267,7 +267,7 @@ fn number_line(
     width: Width,
     part: Span,
 ) -> Step
-    requires { ⌜ Bounded st × (length (now fixups) ≡ fixupRoom) × (length (now text) ≤ 65536) × (line < length (now text)) × SpanWithin (now text) part ⌝ }
+    requires { ⌜ Bounded st × (length (now fixups) ≡ fixupRoom) × LineIn (now text) line × SpanWithin (now text) part ⌝ }
     ensures { λ r. ⌜ DataSteps (now (text .entry)) line st (now (image .entry)) (now (fixups .entry)) (now (image .exit)) (now (fixups .exit)) r (λ k σ. dataLine k line (numbersOf width (spanned (now (text .entry)) part)) σ) ⌝ }
 {
     let bytes = span_bytes(text, part);
@@ -425,7 +425,7 @@ pub fn data_line(
     line: u32,
     part: Span,
 ) -> Step
-    requires { ⌜ Bounded st × (length (now fixups) ≡ fixupRoom) × (length (now text) ≤ 65536) × (line < length (now text)) × SpanWithin (now text) part ⌝ }
+    requires { ⌜ Bounded st × (length (now fixups) ≡ fixupRoom) × LineIn (now text) line × SpanWithin (now text) part ⌝ }
     ensures { λ r. ⌜ DataSteps (now (text .entry)) line st (now (image .entry)) (now (fixups .entry)) (now (image .exit)) (now (fixups .exit)) r (λ k σ. dataLine k line (dataWrites (spanned (now (text .entry)) part)) σ) ⌝ }
 {
     let bytes = span_bytes(text, part);

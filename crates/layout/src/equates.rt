@@ -13,7 +13,7 @@ ghost use lib.ListN.{length};
 ghost use Rattle.layout.specs.Stage.{addEquate};
 ghost use Rattle.layout.specs.Spans.{pieceAt};
 ghost use Rattle.layout.specs.Tables.{flagOf};
-ghost use Rattle.layout.specs.Stands.{Bounded, store, Steps, SpanWithin, expressionRoom};
+ghost use Rattle.layout.specs.Stands.{Bounded, store, Steps, SpanWithin, expressionRoom, LineIn};
 
 fn flag(b: bool) -> u32
     ensures { λ r. ⌜ r ≡ flagOf b ⌝ }
@@ -32,7 +32,7 @@ pub fn add_equate(
     line: u32,
     parts: EquateParts,
 ) -> Step
-    requires { ⌜ Bounded st × (length (now expressions) ≡ expressionRoom) × (length (now text) ≤ 65536) × (line < length (now text)) × SpanWithin (now text) (parts .name) × SpanWithin (now text) (parts .source) ⌝ }
+    requires { ⌜ Bounded st × (length (now expressions) ≡ expressionRoom) × LineIn (now text) line × SpanWithin (now text) (parts .name) × SpanWithin (now text) (parts .source) ⌝ }
     ensures { λ r. ⌜ ((room : ℕ) (l i m f : List ℕ) → Steps (now (text .entry)) room line st (store l (now (equates .entry)) (now (expressions .entry)) i m f) (store l (now (equates .exit)) (now (expressions .exit)) i m f) r (λ k σ. addEquate k line (pieceAt (now (text .entry)) (parts .name)) (record { source = pieceAt (now (text .entry)) (parts .source); oneSpace = parts .spaced }) σ)) ⌝ }
 {
     let count = st.equates;

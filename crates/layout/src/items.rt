@@ -24,7 +24,7 @@ ghost use Rattle.layout.specs.Statements.{isOneOf};
 ghost use Rattle.layout.specs.Pseudos.{spellings, itemOf, pseudoOperands, liWords, pseudoWords, reservedWords, pseudoKind, itemKind};
 ghost use Rattle.layout.specs.Stage.{addItem, textLine};
 ghost use Rattle.layout.specs.Spans.{pieceAt};
-ghost use Rattle.layout.specs.Stands.{Bounded, store, Steps, SpanWithin};
+ghost use Rattle.layout.specs.Stands.{Bounded, store, Steps, SpanWithin, LineIn};
 ghost use Rattle.layout.specs.Kinds.{nameItem, wordItem, unsupported, kindCode};
 
 // What a pseudo's name says; Unsupported is one of the four others.
@@ -189,7 +189,7 @@ fn add_item(
     reserved: usize,
     source: Span,
 ) -> Step
-    requires { ⌜ Bounded st × (length (now text) ≤ 65536) × (line < length (now text)) × SpanWithin (now text) source × (reserved ≤ 11) ⌝ }
+    requires { ⌜ Bounded st × LineIn (now text) line × SpanWithin (now text) source × (reserved ≤ 11) ⌝ }
     ensures { λ r. ⌜ ((item : Option Pseudo) → kind ≡ itemKind item → reserved ≡ reservedWords item (spanned (now (text .entry)) source) → ((l e x m f : List ℕ) → Steps (now (text .entry)) room line st (store l e x (now (items .entry)) m f) (store l e x (now (items .exit)) m f) r (λ k σ. addItem k line item (pieceAt (now (text .entry)) source) σ))) ⌝ }
 {
     let count = st.items;
@@ -225,7 +225,7 @@ pub fn text_line(
     line: u32,
     source: Span,
 ) -> Step
-    requires { ⌜ Bounded st × (length (now text) ≤ 65536) × (line < length (now text)) × SpanWithin (now text) source ⌝ }
+    requires { ⌜ Bounded st × LineIn (now text) line × SpanWithin (now text) source ⌝ }
     ensures { λ r. ⌜ ((l e x m f : List ℕ) → Steps (now (text .entry)) room line st (store l e x (now (items .entry)) m f) (store l e x (now (items .exit)) m f) r (λ k σ. textLine k line (pieceAt (now (text .entry)) source) (itemOf (spanned (now (text .entry)) source)) σ)) ⌝ }
 {
     match kind_of(text, source) {

@@ -17,7 +17,7 @@ ghost use Rattle.layout.specs.Stage.{Label, addLabel};
 ghost use Rattle.layout.specs.Addresses.{put};
 ghost use Rattle.layout.specs.Spans.{pieceAt};
 ghost use Rattle.layout.specs.Tables.{fieldBytes};
-ghost use Rattle.layout.specs.Stands.{Bounded, store, Steps, SpanWithin, nameAt, LabelTable, labelFound, FoundBelow};
+ghost use Rattle.layout.specs.Stands.{Bounded, store, Steps, SpanWithin, nameAt, LabelTable, labelFound, FoundBelow, LineIn};
 
 // Where a label's record stands among the others, or nowhere.
 pub enum Found {
@@ -66,7 +66,7 @@ fn put_label(labels: &mut [u8], k: usize, name: Span, place: u32, line: u32)
 
 // A label at the place where the layout is.
 pub fn add_label(text: &[u8], labels: &mut [u8], st: Counters, line: u32, name: Span) -> Step
-    requires { ⌜ Bounded st × (st .labels * 16 ≤ length (now labels)) × (length (now text) ≤ 65536) × (line < length (now text)) × SpanWithin (now text) name ⌝ }
+    requires { ⌜ Bounded st × (st .labels * 16 ≤ length (now labels)) × LineIn (now text) line × SpanWithin (now text) name ⌝ }
     ensures { λ r. ⌜ ((room : ℕ) (e x i m f : List ℕ) → Steps (now (text .entry)) room line st (store (now (labels .entry)) e x i m f) (store (now (labels .exit)) e x i m f) r (λ k σ. addLabel k line (some (pieceAt (now (text .entry)) name)) σ)) ⌝ }
 {
     let count = st.labels;

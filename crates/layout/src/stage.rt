@@ -15,12 +15,11 @@ use numbers::text::span_bytes;
 ghost use mathlib.Core.Path.{_≡_};
 ghost use mathlib.Core.List.{List};
 ghost use Prim.Native.Nat.{ℕ, _*_, _≤_, _<_};
-ghost use lib.ListN.{length, replicate};
-ghost use Rattle.layout.specs.Pieces.{lines, linePieces};
-ghost use Rattle.layout.specs.Stage.{start, addLabel, ownLine, says, stepStatement, lineStage};
+ghost use lib.ListN.{length};
+ghost use Rattle.layout.specs.Stage.{addLabel, ownLine, says, stepStatement};
 ghost use Rattle.layout.specs.Spans.{pieceAt, labelAt, statementAt};
 ghost use Rattle.layout.specs.Tables.{placeCode};
-ghost use Rattle.layout.specs.Stands.{Bounded, store, Steps, Ready, StageAgrees, lentOf, placeOf, SpanWithin, LabelWithin, StatementWithin, expressionRoom, fixupRoom};
+ghost use Rattle.layout.specs.Stands.{Bounded, store, Steps, Ready, StageGives, Zeros, placeOf, SpanWithin, LabelWithin, StatementWithin, expressionRoom, fixupRoom, LineIn};
 
 // Where the layout is: the section, the words reserved, the bytes of data and of bss, and how many records there are.
 pub struct Counters {
@@ -99,7 +98,7 @@ fn own_line(
     line: u32,
     part: Span,
 ) -> Step
-    requires { ⌜ Bounded st × (length (now fixups) ≡ fixupRoom) × (length (now text) ≤ 65536) × (line < length (now text)) × SpanWithin (now text) part ⌝ }
+    requires { ⌜ Bounded st × (length (now fixups) ≡ fixupRoom) × LineIn (now text) line × SpanWithin (now text) part ⌝ }
     ensures { λ r. ⌜ ((l e x : List ℕ) → Steps (now (text .entry)) room line st (store l e x (now (items .entry)) (now (image .entry)) (now (fixups .entry))) (store l e x (now (items .exit)) (now (image .exit)) (now (fixups .exit))) r (λ k σ. ownLine k line (pieceAt (now (text .entry)) part) (st .section) σ)) ⌝ }
 {
     let section = st.section;
@@ -122,7 +121,7 @@ fn says(
     line: u32,
     statement: Statement,
 ) -> Step
-    requires { ⌜ Bounded st × (length (now expressions) ≡ expressionRoom) × (length (now fixups) ≡ fixupRoom) × (length (now text) ≤ 65536) × (line < length (now text)) × StatementWithin (now text) statement ⌝ }
+    requires { ⌜ Bounded st × (length (now expressions) ≡ expressionRoom) × (length (now fixups) ≡ fixupRoom) × LineIn (now text) line × StatementWithin (now text) statement ⌝ }
     ensures { λ r. ⌜ ((l : List ℕ) → Steps (now (text .entry)) room line st (store l (now (equates .entry)) (now (expressions .entry)) (now (items .entry)) (now (image .entry)) (now (fixups .entry))) (store l (now (equates .exit)) (now (expressions .exit)) (now (items .exit)) (now (image .exit)) (now (fixups .exit))) r (λ k σ. says k line (statementAt (now (text .entry)) statement) σ)) ⌝ }
 {
     match statement {
@@ -135,7 +134,7 @@ fn says(
 }
 
 fn label_step(text: &[u8], labels: &mut [u8], st: Counters, line: u32, label: LabelPart) -> Step
-    requires { ⌜ Bounded st × (st .labels * 16 ≤ length (now labels)) × (length (now text) ≤ 65536) × (line < length (now text)) × LabelWithin (now text) label ⌝ }
+    requires { ⌜ Bounded st × (st .labels * 16 ≤ length (now labels)) × LineIn (now text) line × LabelWithin (now text) label ⌝ }
     ensures { λ r. ⌜ ((room : ℕ) (e x i m f : List ℕ) → Steps (now (text .entry)) room line st (store (now (labels .entry)) e x i m f) (store (now (labels .exit)) e x i m f) r (λ k σ. addLabel k line (labelAt (now (text .entry)) label) σ)) ⌝ }
 {
     match label {
@@ -158,7 +157,7 @@ fn step_line(
     line: u32,
     part: Span,
 ) -> Step
-    requires { ⌜ Ready (now text) room st (store (now labels) (now equates) (now expressions) (now items) (now image) (now fixups)) × (st .labels * 16 ≤ length (now labels)) × (length (now expressions) ≡ expressionRoom) × (length (now fixups) ≡ fixupRoom) × (length (now text) ≤ 65536) × (line < length (now text)) × SpanWithin (now text) part ⌝ }
+    requires { ⌜ Ready (now text) room st (store (now labels) (now equates) (now expressions) (now items) (now image) (now fixups)) × (st .labels * 16 ≤ length (now labels)) × (length (now expressions) ≡ expressionRoom) × (length (now fixups) ≡ fixupRoom) × LineIn (now text) line × SpanWithin (now text) part ⌝ }
     ensures { λ r. ⌜ Steps (now (text .entry)) room line st (store (now (labels .entry)) (now (equates .entry)) (now (expressions .entry)) (now (items .entry)) (now (image .entry)) (now (fixups .entry))) (store (now (labels .exit)) (now (equates .exit)) (now (expressions .exit)) (now (items .exit)) (now (image .exit)) (now (fixups .exit))) r (λ k σ. stepStatement k line (pieceAt (now (text .entry)) part) σ) ⌝ }
 {
     let parsed = line_of(text, part);
@@ -192,8 +191,8 @@ pub fn line_stage(
     image: &mut [u8],
     fixups: &mut [u8],
 ) -> Stage
-    requires { ⌜ (length (now text) ≤ 65536) × (length (now expressions) ≡ expressionRoom) × (length (now fixups) ≡ fixupRoom) × (now labels ≡ replicate (length (now labels)) 0) × (now equates ≡ replicate (length (now equates)) 0) × (now expressions ≡ replicate (length (now expressions)) 0) × (now items ≡ replicate (length (now items)) 0) × (now image ≡ replicate (length (now image)) 0) × (now fixups ≡ replicate (length (now fixups)) 0) ⌝ }
-    ensures { λ r. ⌜ StageAgrees (now (text .entry)) (lentOf room (store (now (labels .entry)) (now (equates .entry)) (now (expressions .entry)) (now (items .entry)) (now (image .entry)) (now (fixups .entry)))) (store (now (labels .exit)) (now (equates .exit)) (now (expressions .exit)) (now (items .exit)) (now (image .exit)) (now (fixups .exit))) r (lineStage (lentOf room (store (now (labels .entry)) (now (equates .entry)) (now (expressions .entry)) (now (items .entry)) (now (image .entry)) (now (fixups .entry)))) 0 (linePieces 0 (lines (now (text .entry)))) start) ⌝ }
+    requires { ⌜ (length (now text) ≤ 65536) × (length (now expressions) ≡ expressionRoom) × (length (now fixups) ≡ fixupRoom) × Zeros (now labels) × Zeros (now equates) × Zeros (now expressions) × Zeros (now items) × Zeros (now image) × Zeros (now fixups) ⌝ }
+    ensures { λ r. ⌜ StageGives (now (text .entry)) room (store (now (labels .entry)) (now (equates .entry)) (now (expressions .entry)) (now (items .entry)) (now (image .entry)) (now (fixups .entry))) (store (now (labels .exit)) (now (equates .exit)) (now (expressions .exit)) (now (items .exit)) (now (image .exit)) (now (fixups .exit))) r ⌝ }
 {
     let mut st = Counters::START;
     let mut at = 0;

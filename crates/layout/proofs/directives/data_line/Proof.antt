@@ -36,7 +36,7 @@ enum-known-width c = search needs
 add-t23 : tie.Need-add-t23
 add-t23 c =
     let start = c .before .before .before .before .before .before .before .before .before in
-    omega (arith, start .pre, rest-within _ (start .args .part) _ _ (c .before .before .before .before .before .span-bytes .ensures) (rw (c .before .before .width .given .1) at (c .before .before .before .before .directive-of .ensures .1)) (start .pre .4))
+    omega (arith, start .pre, rest-within _ (start .args .part) _ _ (c .before .before .before .before .before .span-bytes .ensures) (rw (c .before .before .width .given .1) at (c .before .before .before .before .directive-of .ensures .1)) (start .pre .3))
 
 sub-t25 : tie.Need-sub-t25
 sub-t25 c = rw (c .before .before .width .given .1) at (c .before .before .before .before .directive-of .ensures .1)
@@ -45,7 +45,7 @@ number-line-requires : tie.Need-number-line-requires
 number-line-requires c κs =
     let arm = c .before .before .before .before in
     let start = arm .before .before .before .before .before .before .before in
-    (start .pre .0, start .pre .1, start .pre .2, start .pre .3, rest-within _ (start .args .part) _ _ (arm .before .before .before .span-bytes .ensures) (rw (arm .width .given .1) at (arm .before .before .directive-of .ensures .1)) (start .pre .4))
+    (start .pre .0, start .pre .1, start .pre .2, rest-within _ (start .args .part) _ _ (arm .before .before .before .span-bytes .ensures) (rw (arm .width .given .1) at (arm .before .before .directive-of .ensures .1)) (start .pre .3))
 
 enum-told : tie.Need-enum-told
 enum-told c = search needs
@@ -67,7 +67,7 @@ string-line-requires c κs =
     let arm = c .before .before .before in
     let start = arm .before .before .before .before .before .before .before in
     let named = rw (arm .n2 .given .1) at (arm .before .before .directive-of .ensures .1) in
-    (start .pre .0, rw tail (omega (arith, rest-size (now (start .args .text)) (start .args .part) _ _ (arm .before .before .before .span-bytes .ensures) (named .0), start .pre .2)), named .1)
+    (start .pre .0, rw tail (omega (arith, rest-size (now (start .args .text)) (start .args .part) _ _ (arm .before .before .before .span-bytes .ensures) (named .0), start .pre .2 .0)), named .1)
 
 enum-known-n-3 : tie.Need-enum-known-n-3
 enum-known-n-3 c = search needs

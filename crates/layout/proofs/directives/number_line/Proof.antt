@@ -69,7 +69,7 @@ number-operand-requires c κs =
     let within : SpanWithin (a .text .now) (a .part) = omega (arith, h) in
     let q = operand-within (a .text .now) (a .part) (c .before .before .before .before .before .before .before .before .before .span-bytes .result .now) (o .loop .at) _ _ (c .before .before .before .before .before .before .before .before .before .span-bytes .ensures) (found (c .before .before .before .before)) within in
     let same : length (o .loop .fixups) ≡ fixupRoom = o .loop .inv .same-fixups ∙ omega (arith, h) in
-    (o .loop .inv .bounded, same, omega (arith, h), omega (arith, h), q)
+    (o .loop .inv .bounded, same, h .2, q)
 
 enum-known-next : tie.Need-enum-known-next Inv-loop μ-loop
 enum-known-next c = search needs

@@ -68,7 +68,7 @@ returns-2 c = λ room l i m f k σ u s.
     let test = first .before .before .before .before .before .before in
     let start = test .before .before .before .before in
     let a = start .args in
-    equate-goes _ k _ σ l _ _ i m f s (a .line) (a .parts .name) (a .parts .source) (a .parts .spaced) (start .pre .3) (start .pre .4) (start .pre .5) _ _ _ _
+    equate-goes _ k _ σ l _ _ i m f s (a .line) (a .parts .name) (a .parts .source) (a .parts .spaced) (start .pre .2 .1) (start .pre .3) (start .pre .4) _ _ _ _
     (place .place-code .ensures) (flag .flag .ensures) (one-more (a .st .equates) 256 (length (a .equates .now) / 24) (test .if1 .left))
     (first .put-six .ensures) (second .put-four .ensures)
 

@@ -57,7 +57,7 @@ returns-3 c = λ item u v l e x m f k σ w s.
     let start = test .before .before .before in
     let a = start .args in
     item-goes _ k _ σ l e x _ m f s (a .line) item (a .source) (a .reserved) v (one-more (a .st .items) 2048 (length (a .items .now) / 24) (test .if1 .left)) (a .kind) _
-    (start .pre .2) (start .pre .3) u (rw w (enough (a .st .words + a .reserved) 16384 (a .room) (words .if2 .left))) (put .put-six .ensures)
+    (start .pre .1 .1) (start .pre .2) u (rw w (enough (a .st .words + a .reserved) 16384 (a .room) (words .if2 .left))) (put .put-six .ensures)
 
 pub add-item-spec : {M : Type 1} → statement M
 add-item-spec =

@@ -22,7 +22,7 @@ add-item-requires c κs =
     let start = kind .before .before .before in
     let a = start .args in
     let is = kind-ordinary _ (a .source) (arm .s .given .0 .0) (itemOf (spanned (a .text .now) (a .source))) (kind .kind-of .ensures) (arm .s .given .1) in
-    let h = rw (is .1) at (start .pre .3) in
+    let h = rw (is .1) at (start .pre .2) in
     search needs
 
 enum-known-p : tie.Need-enum-known-p
@@ -46,7 +46,7 @@ add-item-requires-2 c κs =
     let a = start .args in
     let p = arm .p .given .0 .0 in
     let is = kind-pseudo _ (a .source) (arm .p .given .0 .1 .0) (itemOf (spanned (a .text .now) (a .source))) p (kind .kind-of .ensures) (arm .p .given .1) in
-    let h = rw (is .1) at (start .pre .3) in
+    let h = rw (is .1) at (start .pre .2) in
     let few = rw (← words .pseudo-words .ensures) at (words-few p (words .before .span-bytes .result .now)) in
     search needs
 

@@ -55,7 +55,7 @@ returns-2 c = λ room e x i m f k σ _ s.
     let place = bytes .before .before in
     let start = place .before .before .before in
     let a = start .args in
-    label-known _ k _ σ _ e x i m f s (a .line) (a .name) (start .pre .3) (start .pre .4) _ (place .place-code .ensures) _ _
+    label-known _ k _ σ _ e x i m f s (a .line) (a .name) (start .pre .2 .1) (start .pre .3) _ (place .place-code .ensures) _ _
     (searched _ k _ σ _ e x i m f s (find .find-label .result) _ _ _ (bytes .span-bytes .ensures) (find .find-label .ensures .1) (c .before .before .before .before .before .k .given .1))
     (c .before .before .put-label .ensures)
 
@@ -69,7 +69,7 @@ returns-3 c = λ room e x i m f k σ _ s.
     let place = bytes .before .before in
     let start = place .before .before .before in
     let a = start .args in
-    label-new _ k _ σ _ e x i m f s (a .line) (a .name) (start .pre .3) (start .pre .4) _ (place .place-code .ensures) _
+    label-new _ k _ σ _ e x i m f s (a .line) (a .name) (start .pre .2 .1) (start .pre .3) _ (place .place-code .ensures) _
     (searched _ k _ σ _ e x i m f s (find .find-label .result) _ _ _ (bytes .span-bytes .ensures) (find .find-label .ensures .1) (c .before .before .before .before .before .enum-told .given .1))
     (one-more (a .st .labels) 1024 (length (a .labels .now) / 16) (c .before .before .before .before .if1 .left))
     (c .before .before .put-label2 .ensures)

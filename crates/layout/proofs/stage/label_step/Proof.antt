@@ -8,7 +8,7 @@ enum-known-label : tie.Need-enum-known-label
 enum-known-label c = search needs
 
 add-label-requires : tie.Need-add-label-requires
-add-label-requires c κs = let h = rw (c .before .before .label .given .1) at (c .before .before .before .before .before .before .pre .4) in search needs
+add-label-requires c κs = let h = rw (c .before .before .label .given .1) at (c .before .before .before .before .before .before .pre .3) in search needs
 
 enum-told : tie.Need-enum-told
 enum-told c = search needs

@@ -68,8 +68,7 @@ step-line-requires c κs =
       omega (arith, v .stands .labels, v .stands .fits .labels .few, v .same .labels),
       search needs,
       search needs,
-      search needs,
-      search needs,
+      (start-of l .pre .0, omega (arith, v .counted, p .before .before .loop-test .taken)),
       part-within v (p .before .before .loop-test .taken) (p .before .line-end .ensures) (p .statement-part .ensures),
     )
 

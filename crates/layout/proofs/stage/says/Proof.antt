@@ -20,7 +20,7 @@ enum-known-statement-2 c = search needs
 
 add-equate-requires : tie.Need-add-equate-requires
 add-equate-requires c κs =
-    let h = rw (c .before .before .before .statement2 .given .1) at (c .before .before .before .before .before .before .before .before .before .before .before .pre .5) in
+    let h = rw (c .before .before .before .statement2 .given .1) at (c .before .before .before .before .before .before .before .before .before .before .before .pre .4) in
     search needs
 
 enum-known-statement-3 : tie.Need-enum-known-statement-3
@@ -28,7 +28,7 @@ enum-known-statement-3 c = search needs
 
 own-line-requires : tie.Need-own-line-requires
 own-line-requires c κs =
-    let h = rw (c .before .before .before .before .statement3 .given .1) at (c .before .before .before .before .before .before .before .before .before .before .before .before .pre .5) in
+    let h = rw (c .before .before .before .before .statement3 .given .1) at (c .before .before .before .before .before .before .before .before .before .before .before .before .pre .4) in
     search needs
 
 enum-known-statement-4 : tie.Need-enum-known-statement-4

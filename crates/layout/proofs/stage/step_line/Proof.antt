@@ -40,9 +40,8 @@ label-step-requires c κs =
     let r = s .pre .0 in (
       stands-bounded (s .args .text .now) (r .lent) (s .args .st) _ (r .state) (r .stands),
       search needs,
-      search needs,
-      search needs,
-      line-label-within (s .args .text .now) (s .args .part) (s .pre .6) (c .before .line-of .result) (c .before .line-of .ensures),
+      s .pre .4,
+      line-label-within (s .args .text .now) (s .args .part) (s .pre .5) (c .before .line-of .result) (c .before .line-of .ensures),
     )
 
 enum-known-labelled : tie.Need-enum-known-labelled
@@ -57,9 +56,8 @@ says-requires c κs =
           (c .before .before .before .before .before .before .labelled .given .1) (added d (r .lent) (r .state) (r .words) (r .stands)),
       search needs,
       search needs,
-      search needs,
-      search needs,
-      line-says-within (s .args .text .now) (s .args .part) (s .pre .6) (d .before .before .line-of .result) (d .before .before .line-of .ensures),
+      s .pre .4,
+      line-says-within (s .args .text .now) (s .args .part) (s .pre .5) (d .before .before .line-of .result) (d .before .before .line-of .ensures),
     )
 
 enum-known-n : tie.Need-enum-known-n
@@ -89,7 +87,7 @@ returns c = λ k σ w h.
     let a = v .before .before .before .before .before .before .before in
     let d = a .before .before .before .before in
     let s = start-of d in
-    labelled-says (s .args .text .now) (s .args .part) (s .pre .6) (d .before .before .line-of .result) (d .before .before .line-of .ensures)
+    labelled-says (s .args .text .now) (s .args .part) (s .pre .5) (d .before .before .line-of .result) (d .before .before .line-of .ensures)
     k (s .args .line) σ (left d)
     (store (d .label-step .last .1 .0) (v .says .last .1 .0) (v .says .last .1 .1 .0) (v .says .last .1 .1 .1 .0) (v .says .last .1 .1 .1 .1 .0) (v .says .last .1 .1 .1 .1 .1 .0))
     (a .labelled .given .0 .0) (d .label-step .result) (v .says .result) (a .labelled .given .1) (added d k σ w h)
@@ -102,7 +100,7 @@ returns-2 : tie.Need-returns-2
 returns-2 c = λ k σ w h.
     let d = c .before .before .before .before .before in
     let s = start-of d in
-    label-stops (s .args .text .now) (s .args .part) (s .pre .6) (d .before .before .line-of .result) (d .before .before .line-of .ensures)
+    label-stops (s .args .text .now) (s .args .part) (s .pre .5) (d .before .before .line-of .result) (d .before .before .line-of .ensures)
     k (s .args .line) σ (left d) (left d) (c .before .n .given .0 .0) (d .label-step .result) (c .before .n .given .1) (added d k σ w h)
 
 pub step-line-spec : {M : Type 1} → statement M
