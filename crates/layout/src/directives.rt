@@ -1,4 +1,8 @@
 // The data and bss sections' own rules.
+use crate::limits::BSS_LIMIT;
+use crate::limits::DATA_LIMIT;
+use crate::limits::FIXUP_LIMIT;
+use crate::limits::FIXUP_SIZE;
 use crate::records::put_four;
 use crate::stage::Counters;
 use crate::stage::Step;
@@ -129,7 +133,7 @@ fn has_room(lent: usize, used: usize, n: usize) -> bool
     ensures { λ r. ⌜ r ≡ leb (used + n) (min 65536 lent) ⌝ }
 {
     let size = used + n;
-    (size <= 65536) & (size <= lent)
+    (size <= DATA_LIMIT) & (size <= lent)
 }
 
 fn store_number(image: &mut [u8], st: Counters, width: Width, v: i64) -> Step
@@ -179,7 +183,8 @@ fn store_zeros(image: &mut [u8], st: Counters, n: usize) -> Step
     Step::Go(next)
 }
 
-// Four bytes 0, which the address of the label takes once the labels are known.
+// Four bytes 0, which the address of the label takes once the labels are known. The contract alone names the text, which
+// the name is a part of.
 fn store_label_word(
     text: &[u8],
     image: &mut [u8],
@@ -196,12 +201,12 @@ fn store_label_word(
         return Step::Stop(42);
     }
     let count = st.fixups;
-    if 1024 <= count {
+    if FIXUP_LIMIT <= count {
         return Step::Stop(47);
     }
     put_four(
         fixups,
-        count * 16,
+        count * FIXUP_SIZE,
         at as u32,
         name.start as u32,
         name.len as u32,
@@ -449,7 +454,7 @@ pub fn data_line(
 fn grow_bss(st: Counters, size: usize) -> Step
     ensures { λ r. ⌜ CounterSteps st r (λ k line σ. growBss line size σ) ⌝ }
 {
-    if 1048576 < size {
+    if BSS_LIMIT < size {
         return Step::Stop(43);
     }
     let mut next = st;

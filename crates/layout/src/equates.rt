@@ -1,4 +1,7 @@
 // Equates: the record, pending until a round finds its value, and its expression.
+use crate::limits::EQUATE_LIMIT;
+use crate::limits::EQUATE_SIZE;
+use crate::limits::EXPRESSION_SIZE;
 use crate::line::EquateParts;
 use crate::records::put_four;
 use crate::records::put_six;
@@ -24,6 +27,7 @@ fn flag(b: bool) -> u32
     0
 }
 
+// An equate's record and its expression's. The contract alone names the text, which the parts are of.
 pub fn add_equate(
     text: &[u8],
     equates: &mut [u8],
@@ -36,14 +40,14 @@ pub fn add_equate(
     ensures { λ r. ⌜ ((room : ℕ) (l i m f : List ℕ) → Steps (now (text .entry)) room line st (store l (now (equates .entry)) (now (expressions .entry)) i m f) (store l (now (equates .exit)) (now (expressions .exit)) i m f) r (λ k σ. addEquate k line (pieceAt (now (text .entry)) (parts .name)) (record { source = pieceAt (now (text .entry)) (parts .source); oneSpace = parts .spaced }) σ)) ⌝ }
 {
     let count = st.equates;
-    if !((count < 256) & (count < equates.len() / 24)) {
+    if !((count < EQUATE_LIMIT) & (count < equates.len() / EQUATE_SIZE)) {
         return Step::Stop(46);
     }
     let name = parts.name;
     let source = parts.source;
     put_six(
         equates,
-        count * 24,
+        count * EQUATE_SIZE,
         name.start as u32,
         name.len as u32,
         line,
@@ -53,7 +57,7 @@ pub fn add_equate(
     );
     put_four(
         expressions,
-        count * 16,
+        count * EXPRESSION_SIZE,
         source.start as u32,
         source.len as u32,
         flag(parts.spaced),

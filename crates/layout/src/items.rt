@@ -1,4 +1,7 @@
 // Items: an ordinary line or a pseudo-instruction, the words it reserves, and its record.
+use crate::limits::ITEM_LIMIT;
+use crate::limits::ITEM_SIZE;
+use crate::limits::WORD_LIMIT;
 use crate::line::Pseudo;
 use crate::parts::word_len;
 use crate::records::put_six;
@@ -178,7 +181,8 @@ fn pseudo_kind(pseudo: Pseudo) -> u32
     }
 }
 
-// An item's record is written, and its words are reserved; room is how many words are lent.
+// An item's record is written, and its words are reserved; room is how many words are lent. The contract alone names the
+// text, which the source is a part of.
 fn add_item(
     text: &[u8],
     items: &mut [u8],
@@ -193,16 +197,16 @@ fn add_item(
     ensures { λ r. ⌜ ((item : Option Pseudo) → kind ≡ itemKind item → reserved ≡ reservedWords item (spanned (now (text .entry)) source) → ((l e x m f : List ℕ) → Steps (now (text .entry)) room line st (store l e x (now (items .entry)) m f) (store l e x (now (items .exit)) m f) r (λ k σ. addItem k line item (pieceAt (now (text .entry)) source) σ))) ⌝ }
 {
     let count = st.items;
-    if !((count < 2048) & (count < items.len() / 24)) {
+    if !((count < ITEM_LIMIT) & (count < items.len() / ITEM_SIZE)) {
         return Step::Stop(48);
     }
     let words = st.words + reserved;
-    if !((words <= 16384) & (words <= room)) {
+    if !((words <= WORD_LIMIT) & (words <= room)) {
         return Step::Stop(44);
     }
     put_six(
         items,
-        count * 24,
+        count * ITEM_SIZE,
         (4 * st.words) as u32,
         line,
         kind,

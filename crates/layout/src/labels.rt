@@ -1,4 +1,6 @@
 // Labels, by name: the last definition of a name wins.
+use crate::limits::LABEL_LIMIT;
+use crate::limits::LABEL_SIZE;
 use crate::records::get_u32;
 use crate::records::put_four;
 use crate::stage::Counters;
@@ -30,7 +32,7 @@ fn is_named(text: &[u8], labels: &[u8], k: usize, name: &[u8]) -> bool
     requires { ⌜ k * 16 + 16 ≤ length (now labels) ⌝ }
     ensures { λ r. ⌜ r ≡ same (spanned (now (text .entry)) (nameAt (now (labels .entry)) (k * 16))) (now (name .entry)) ⌝ }
 {
-    let at = k * 16;
+    let at = k * LABEL_SIZE;
     let start = get_u32(labels, at) as usize;
     let len = get_u32(labels, at + 4) as usize;
     same_bytes(span_bytes(text, Span { start, len }), name)
@@ -56,7 +58,7 @@ fn put_label(labels: &mut [u8], k: usize, name: Span, place: u32, line: u32)
 {
     put_four(
         labels,
-        k * 16,
+        k * LABEL_SIZE,
         name.start as u32,
         name.len as u32,
         place,
@@ -77,7 +79,7 @@ pub fn add_label(text: &[u8], labels: &mut [u8], st: Counters, line: u32, name: 
             Step::Go(st)
         }
         Found::Nothing => {
-            if !((count < 1024) & (count < labels.len() / 16)) {
+            if !((count < LABEL_LIMIT) & (count < labels.len() / LABEL_SIZE)) {
                 return Step::Stop(45);
             }
             put_label(labels, count, name, place, line);

@@ -3,6 +3,7 @@ pub mod directives;
 pub mod equates;
 pub mod items;
 pub mod labels;
+pub mod limits;
 pub mod line;
 pub mod parts;
 pub mod records;

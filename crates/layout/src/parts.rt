@@ -24,7 +24,7 @@ fn trim_part(text: &[u8], part: Span) -> Span
     }
 }
 
-// The first n bytes of a part.
+// The first n bytes of a part. The contract alone names the text.
 pub fn part_to(text: &[u8], part: Span, n: usize) -> Span
     requires { ⌜ n ≤ length (spanned (now text) part) ⌝ }
     ensures { λ r. ⌜ r ≡ spanOf (piece (part .start) (take n (spanned (now (text .entry)) part))) ⌝ }

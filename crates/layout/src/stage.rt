@@ -88,6 +88,7 @@ pub fn place_code(st: Counters) -> u32
     }
 }
 
+// The section's own rule.
 fn own_line(
     text: &[u8],
     items: &mut [u8],
@@ -109,6 +110,7 @@ fn own_line(
     }
 }
 
+// What a statement does.
 fn says(
     text: &[u8],
     equates: &mut [u8],
@@ -133,6 +135,7 @@ fn says(
     }
 }
 
+// A line's label, if it has one: before what the line says.
 fn label_step(text: &[u8], labels: &mut [u8], st: Counters, line: u32, label: LabelPart) -> Step
     requires { ⌜ Bounded st × (st .labels * 16 ≤ length (now labels)) × LineIn (now text) line × LabelWithin (now text) label ⌝ }
     ensures { λ r. ⌜ ((room : ℕ) (e x i m f : List ℕ) → Steps (now (text .entry)) room line st (store (now (labels .entry)) e x i m f) (store (now (labels .exit)) e x i m f) r (λ k σ. addLabel k line (labelAt (now (text .entry)) label) σ)) ⌝ }
