@@ -1,5 +1,5 @@
 -- Texts that begin with another, and equal texts.
-use Prim.Native.Nat.{ℕ, suc, _+_, _≤_, _<_}
+use Prim.Native.Nat.{ℕ, suc, _+_, _-_, _≤_, _<_}
 use mathlib.Core.Path.{_∙_, _≡_, ap, refl, sym}
 use mathlib.Core.List.{List, [], _∷_, _++_}
 use mathlib.Core.Bool.{Bool, true, false, _||_, false≢true, and-false, and-true}
@@ -51,14 +51,6 @@ same-unlike [] (y ∷ b) h = refl
 same-unlike (x ∷ a) [] h = refl
 same-unlike (x ∷ a) (y ∷ b) h = rw (same-unlike a b (λ e. h (ap suc e))) (and-false (eqb x y))
 
--- of one length, one begins with the other where they are the same
-pub same-prefix : (a b : List ℕ) → length a ≡ length b → startsWith b a ≡ same a b
-unfolding startsWith same
-same-prefix [] [] h = refl
-same-prefix [] (y ∷ b) h = absurd (omega arith)
-same-prefix (x ∷ a) [] h = absurd (omega arith)
-same-prefix (x ∷ a) (y ∷ b) h = rw (same-prefix a b (omega arith)) refl
-
 -- a text that begins with p is p, then the rest
 pub prefix-splits : (p s : List ℕ) → startsWith p s ≡ true → s ≡ p ++ drop (length p) s
 unfolding startsWith
@@ -79,6 +71,26 @@ pub same-refl : (a : List ℕ) → same a a ≡ true
 unfolding same
 same-refl [] = refl
 same-refl (x ∷ a) = rw (eq-eqb x x refl) (same-refl a)
+
+-- texts of one length, byte by byte from the last on: a byte that differs, one that does not, and none left
+pub byte-differs : (a b : List ℕ) (i : ℕ) → (getD a i 0 ≡ getD b i 0 → ⊥) → same a b ≡ false
+byte-differs a b i h = go (same a b) refl
+  where
+    go : (t : Bool) → same a b ≡ t → t ≡ false
+    go true e = absurd (h (ap (λ (l : List ℕ). getD l i 0) (same-equal a b e)))
+    go false e = refl
+
+pub byte-same : (a b : List ℕ) (i : ℕ) → 0 < i → i ≤ length a → length a ≡ length b → getD a (i - 1) 0 ≡ getD b (i - 1) 0 → drop i a ≡ drop i b
+    → drop (i - 1) a ≡ drop (i - 1) b
+byte-same a b i p h l e d =
+    let next : suc (i - 1) ≡ i = omega arith in
+    rw (drop-cons a (i - 1) 0 (omega (arith, p, h)), drop-cons b (i - 1) 0 (omega (arith, p, h, l)), next, e, d) refl
+
+pub bytes-same : (a b : List ℕ) (i : ℕ) → i ≤ 0 → drop i a ≡ drop i b → same a b ≡ true
+bytes-same a b i h d =
+    let none : i ≡ 0 = omega (arith, h) in
+    let e : a ≡ b = rw none at d in
+    rw e (same-refl b)
 
 -- the same texts have one length
 pub same-length : (a b : List ℕ) → same a b ≡ true → length a ≡ length b

@@ -144,14 +144,22 @@ pub fn starts_with(s: &[u8], prefix: &[u8]) -> bool
     true
 }
 
-// Are the bytes of a and b equal? The lengths are compared first.
+// Are the bytes of a and b equal? The lengths are compared first, then the bytes from the last on: names that are alike
+// mostly differ at their ends.
 pub fn same_bytes(a: &[u8], b: &[u8]) -> bool
     ensures { λ r. ⌜ r ≡ same (now (a .entry)) (now (b .entry)) ⌝ }
 {
     if a.len() != b.len() {
         return false;
     }
-    starts_with(a, b)
+    let mut i = a.len();
+    while 0 < i {
+        if a[i - 1] != b[i - 1] {
+            return false;
+        }
+        i -= 1;
+    }
+    true
 }
 
 // What the byte at a place gives when each run of white space counts as one space.
