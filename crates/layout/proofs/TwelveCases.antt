@@ -6,7 +6,7 @@ use mathlib.Core.List.{List, [], _∷_}
 use lib.IntN.{pos}
 use Rattle.layout.specs.Pieces.{piece}
 use Rattle.layout.specs.Stage.{Lent, wordLimit, dataLimit, labelLimit, equateLimit, itemLimit, labelSize, equateSize, itemSize}
-use Rattle.layout.specs.Layouts.{Outcome, accepted, refused}
+use Rattle.layout.specs.Layouts.{Outcome, accepted, refused, countsOf, buffersOf}
 use Rattle.numbers.specs.Ints.{fit64}
 use Rattle.numbers.specs.Literals.{charLitOf, isString, unquoted, strLitOf}
 use Rattle.numbers.specs.Numbers.{allDigits, valueFrom, digitsFrom, digitsOf, signedDigits, prefixed, outerSigned, numberOf, literalOf, imm64Of, immOf, spacedImmOf}
@@ -53,6 +53,7 @@ laid t = layoutOf t 0 full
 pub twelve-cases :
     -- 1
     (laid (text "") ≡ accepted (record { words = []; image = []; imageBase = 0x1000; bss = 0; labels = []; equates = []; items = []; evaluations = 0 }))
+    × (countsOf (laid (text "")) ≡ record { words = 0; image = 0; imageBase = 0x1000; bss = 0; labels = 0; equates = 0; items = 0; evaluations = 0 })
     -- 2
     × (wordsOf (laid (text "li a0, 2047")) ≡ words (0x7FF00513 ∷ []))
     -- 3
@@ -97,4 +98,35 @@ pub twelve-cases :
     -- 12
     × (imageOf (laid (text ".data\nt: .byte 1\nt: .byte 2\n.word t")) ≡ image (0x01 ∷ 0x02 ∷ 0x01 ∷ 0x10 ∷ 0x00 ∷ 0x00 ∷ []))
 unfolding encoded foundEquates fit64 charLitOf isString unquoted strLitOf allDigits valueFrom digitsFrom digitsOf signedDigits prefixed outerSigned numberOf literalOf imm64Of immOf spacedImmOf commaParts operands nonEmpty itemOperands operandsFrom itemOperandsFrom operandAt itemOperandHere itemOperandAt abiNames numberIn keyOf xNumber bareRegister registerOf leading trimStart trimEnd trimmed spanned trimSpan indexOf before uncommented statementSpan startsWith same oneSpaced addressIn lessBytes insert ordered fill le allLabelBytes stringOrSpace dataWrites bssWrite aligned expansion scan tokensIn anyUnreadable sumFrom evaluate emit highByte layoutOf together lines linePieces spellings itemIn constant turn pass pendingCount firstPending rounds isLabel recorded addLabel addEquate addItem textLine addData addLabelWord dataWrite dataLine growBss bssLine says stepStatement lineStage startsWithAny countBefore sectionNamed sectionOf sectionLine symbolAfter globalOf equateOf equOf assignmentOf unlabelledOf labelled lineOf
-twelve-cases = (refl, refl, refl, refl, refl, refl, refl, refl, refl, refl, refl, refl, refl, refl, refl, refl, refl, refl, refl, refl, refl)
+twelve-cases = (refl, refl, refl, refl, refl, refl, refl, refl, refl, refl, refl, refl, refl, refl, refl, refl, refl, refl, refl, refl, refl, refl)
+
+-- ---- records as bytes, worked: a source with a label, an item and an equate, and one that is refused. Document 01, "Records"
+
+-- small numbers, each in four bytes, the low byte first
+abbrev bytes : List ℕ → List ℕ
+bytes [] = []
+bytes (v ∷ vs) = v ∷ 0 ∷ 0 ∷ 0 ∷ bytes vs
+
+-- room for one of each kind and four bytes more; and for one word and one byte of data more than are used
+abbrev pub little : Lent
+little = record { words = 2; dataBytes = 1; labelBytes = 20; equateBytes = 28; itemBytes = 28 }
+
+pub record-cases :
+    -- the label at 0; the item's source from 3 on; the equate's name at 12, on line 1, its value 7 in 8 bytes, found in round 1
+    (buffersOf little (layoutOf (text "x: li a0, 5\nn = 7") 0 little) ≡ record {
+      words = 0x00500513 ∷ 0 ∷ [];
+      image = 0 ∷ [];
+      labels = bytes (0 ∷ 1 ∷ 0 ∷ 0 ∷ 0 ∷ []);
+      equates = bytes (12 ∷ 1 ∷ 1 ∷ 7 ∷ 0 ∷ 1 ∷ 0 ∷ []);
+      items = bytes (0 ∷ 0 ∷ 1 ∷ 0 ∷ 3 ∷ 8 ∷ 0 ∷ []);
+    })
+    -- refused on line 1: all zeros
+    × (buffersOf little (layoutOf (text "x: li a0, 5\n.section") 0 little) ≡ record {
+      words = 0 ∷ 0 ∷ [];
+      image = 0 ∷ [];
+      labels = bytes (0 ∷ 0 ∷ 0 ∷ 0 ∷ 0 ∷ []);
+      equates = bytes (0 ∷ 0 ∷ 0 ∷ 0 ∷ 0 ∷ 0 ∷ 0 ∷ []);
+      items = bytes (0 ∷ 0 ∷ 0 ∷ 0 ∷ 0 ∷ 0 ∷ 0 ∷ []);
+    })
+unfolding encoded foundEquates fit64 charLitOf isString unquoted strLitOf allDigits valueFrom digitsFrom digitsOf signedDigits prefixed outerSigned numberOf literalOf imm64Of immOf spacedImmOf commaParts operands nonEmpty itemOperands operandsFrom itemOperandsFrom operandAt itemOperandHere itemOperandAt abiNames numberIn keyOf xNumber bareRegister registerOf leading trimStart trimEnd trimmed spanned trimSpan indexOf before uncommented statementSpan startsWith same oneSpaced addressIn lessBytes insert ordered fill le allLabelBytes stringOrSpace dataWrites bssWrite aligned expansion scan tokensIn anyUnreadable sumFrom evaluate emit highByte layoutOf together lines linePieces spellings itemIn constant turn pass pendingCount firstPending rounds isLabel recorded addLabel addEquate addItem textLine addData addLabelWord dataWrite dataLine growBss bssLine says stepStatement lineStage startsWithAny countBefore sectionNamed sectionOf sectionLine symbolAfter globalOf equateOf equOf assignmentOf unlabelledOf labelled lineOf
+record-cases = (refl, refl)
