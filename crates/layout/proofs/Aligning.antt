@@ -1,5 +1,5 @@
 -- Sizes and alignments: what the code's numbers say, and where an aligned place lies.
-use Prim.Native.Nat.{ℕ, zero, suc, _+_, _-_, _≤_, _<_}
+use Prim.Native.Nat.{ℕ, _+_, _-_, _≤_, _<_}
 use native.Mathlib.Omega.{arith}
 use mathlib.Core.Path.{_≡_, refl}
 use mathlib.Core.Bool.{Bool, true, false, true≢false}
@@ -22,7 +22,7 @@ module _ (n p : ℕ) where
   unfolding aligned
   aligned-stays e = rw (aligned, eq-eqb _ _ e)
 
-  -- another moves on, and back to a multiple
+  -- another goes n - 1 on, less the bits that it then shares with n - 1
   pub aligned-moves : 1 ≤ n → (bitAnd p (n - 1) ≡ 0 → ⊥) → aligned n p ≡ p + (n - 1) - bitAnd (p + (n - 1)) (n - 1)
   unfolding aligned
   aligned-moves h e =

@@ -19,7 +19,7 @@ use Rattle.layout.specs.Statements.{Expression, Statement, nothing, ente
 use Rattle.layout.specs.Pseudos.{Item, ordinary, pseudo, other, itemOf, reservedWords}
 use Rattle.layout.specs.Directives.{Write, stores, zeros, aligns, addressOf, wrong, dataWrites, bssWrite, aligned}
 use Rattle.layout.specs.Stage.{Lent, Label, Equate, ItemLine, LabelWord, State, Move, go, stop, andThen, start, here, offsetIn, inSection, withImage, withBss, withLabels, withEquate, withItem, withLabelWord, isLabel, recorded, addLabel, addEquate, addItem, textLine, addData, append, addLabelWord, dataWrite, dataLine, growBss, bssLine, ownLine, says, stepStatement, stepLine, lineStage}
-use Rattle.layout.specs.Limits.{Each, Inside, limit, LabelFits, EquateFits, ItemFits, LabelWordFits, reservedIn, LabelsFit, EquatesFit, ItemsFit, ImageFits, Fits}
+use Rattle.layout.specs.Limits.{Each, Inside, limit, LabelFits, EquateFits, ItemFits, LabelWordFits, reservedIn, Fits}
 use Rattle.layout.proofs.Each.{each-append, each-weaker, cond-has}
 use Rattle.layout.proofs.Parted.{count-within}
 use Rattle.layout.proofs.Inside.{trim-inside, from-inside, first-inside, before-inside, after-inside, statement-inside, lines-inside}

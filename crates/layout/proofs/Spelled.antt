@@ -1,5 +1,5 @@
 -- Pseudo-instructions by their spellings: the word before the first space decides, and whether it ends the line.
-use Prim.Native.Nat.{ℕ, suc, _≤_}
+use Prim.Native.Nat.{ℕ, suc}
 use native.Mathlib.Omega.{arith}
 use mathlib.Core.Path.{_≡_, refl, sym, ap, _∙_}
 use mathlib.Core.List.{List, [], _∷_, map}
@@ -16,7 +16,7 @@ use Rattle.numbers.proofs.Bools.{and-left, and-right, or-left, or-right}
 use Rattle.numbers.proofs.Prefixes.{same-equal}
 use Rattle.numbers.proofs.Parts.{items-spaced, item-step, item-end, items-all}
 use Rattle.layout.specs.Limits.{Each}
-use Rattle.layout.specs.Statements.{countBefore, isOneOf}
+use Rattle.layout.specs.Statements.{isOneOf}
 use Rattle.layout.specs.Pseudos.{Item, ordinary, pseudo, other, Spelling, spellings, itemIn, liNumber, liWords}
 use Rattle.layout.specs.Kinds.{wordItem}
 

@@ -1,11 +1,10 @@
 -- Steps of the line stage: what the counters and buffers stand for after each of them.
-use Prim.Native.Nat.{ℕ, suc, _+_, _-_, _*_, _/_, min, _≤_, _<_}
+use Prim.Native.Nat.{ℕ, _+_, _-_, _*_, min, _≤_, _<_}
 use mathlib.Core.Path.{_≡_, refl, sym, ap, _∙_}
-use mathlib.Core.List.{List, [], _∷_, _++_, map, map-append}
-use mathlib.Core.Bool.{Bool, true, false}
-use mathlib.Core.Option.{Option}
+use mathlib.Core.List.{List, [], _∷_, _++_, map-append}
+use mathlib.Core.Bool.{true, false}
 use native.Mathlib.Omega.{arith}
-use lib.Dec.{leb, ltb}
+use lib.Dec.{leb}
 use lib.ListN.{length, replicate, length-append, length-replicate, length-map}
 use borrow.Author.Tests.{le-leb, lt-leb, lt-ltb, le-ltb, leb-true}
 use Rattle.numbers.specs.declared.text.Span.{Span}
@@ -16,9 +15,7 @@ use Rattle.layout.specs.declared.directives.Width.{Width}
 use Rattle.layout.specs.declared.directives.Width.the-variants.{Byte, Half, Word, Dword}
 use Rattle.layout.specs.Directives.{widthBytes, stores, zeros, aligns, addressOf, aligned}
 use Rattle.layout.specs.Addresses.{put}
-use Rattle.layout.specs.Stage.{Lent, State, Move, go, stop, withImage, withBss, inSection, addData, append, addLabelWord, dataWrite, growBss}
-use Rattle.layout.specs.Limits.{Fits}
-use Rattle.layout.specs.Layouts.{padded}
+use Rattle.layout.specs.Stage.{Lent, State, Move, withImage, addData, append, addLabelWord, dataWrite, growBss}
 use Rattle.layout.specs.Tables.{fieldBytes}
 use Rattle.layout.specs.Stands.{Store, store, Fixup, fixupFields, labelWordOf, fixupRoom, Stands, Bounded, Agrees}
 use Rattle.layout.proofs.Each.{each-append}

@@ -1,5 +1,5 @@
 -- The twelve numbered cases of document 01, "Proved table and bench program", by computing on the definitions; base 0 and buffers of every
--- limit's full size.
+-- limit's full size. Then records worked byte by byte, in small buffers.
 use Prim.Native.Nat.{ℕ, _*_}
 use mathlib.Core.Path.{_≡_, refl}
 use mathlib.Core.List.{List, [], _∷_}

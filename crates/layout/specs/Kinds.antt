@@ -1,8 +1,8 @@
 -- What the code's answers about a line mean.
 use Prim.Native.Nat.{ℕ, _≤_}
 use mathlib.Core.List.{List, [], _∷_}
-use mathlib.Core.Bool.{Bool, true, false, cond, not, _&&_}
-use lib.ListN.{length, drop, replicate}
+use mathlib.Core.Bool.{Bool, cond, not, _&&_}
+use lib.ListN.{drop, replicate}
 use Rattle.numbers.specs.declared.text.Span.{Span}
 use Rattle.numbers.specs.Text.{text, same}
 use Rattle.numbers.specs.Numbers.{immOf}

@@ -1,4 +1,5 @@
--- What has been laid out fits: its names and operands are pieces of the text, its counts are within their limits and what is lent.
+-- What has been laid out fits: the names of labels and equates, expressions and items' sources are pieces of the text, its counts are within
+-- their limits and what is lent.
 -- Document 01, "Refused because of the state"; what every step of the line stage keeps.
 use Prim.Native.Nat.{ℕ, _+_, _*_, _/_, min, _≤_, _<_}
 use mathlib.Core.Path.{_≡_}

@@ -1,4 +1,4 @@
--- How the code names a piece of the text: by its span. What a line's kind is there.
+-- How the code names a piece of the text: by its span; and a line's label and statement, by the spans of their pieces.
 use Prim.Native.Nat.{ℕ}
 use mathlib.Core.List.{List}
 use mathlib.Core.Option.{Option, none, some}

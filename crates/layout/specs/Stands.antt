@@ -64,6 +64,7 @@ pub record FixupTable (t : List ℕ) (table : List ℕ) (w : List LabelWord) : T
   pub within : Each (λ x. x .name .start + x .name .len ≤ length t) entries
   pub bytes : table ≡ tableOf fixupRoom fixupFields entries
 
+-- counters c and buffers b stand for σ: each count, each record and byte in its order, and zeros after them up to what k lends; σ fits
 pub record Stands (t : List ℕ) (k : Lent) (c : Counters) (b : Store) (σ : State) : Type 0 where
   pub section : c .section ≡ σ .section
   pub words : c .words ≡ σ .words
@@ -124,10 +125,11 @@ pub record Ready (t : List ℕ) (room : ℕ) (c : Counters) (b : Store) : Type 0
   pub words : lent .words ≡ room
   pub stands : Stands t lent c b state
 
--- a step that writes no buffer, or the data alone, and whose move keeps no line
+-- a step that writes no buffer, and whose move records no line
 abbrev pub CounterSteps : Counters → Step → (Lent → ℕ → State → Move) → Type 0
 CounterSteps c r move = (t : List ℕ) (room line : ℕ) (b : Store) → Steps t room line c b b r (λ k σ. move k line σ)
 
+-- the same, of a step that writes the data
 abbrev pub ImageSteps : Counters → List ℕ → List ℕ → Step → (Lent → ℕ → State → Move) → Type 0
 ImageSteps c image image′ r move =
     (t : List ℕ) (room line : ℕ) (l e x i f : List ℕ) → Steps t room line c (store l e x i image f) (store l e x i image′ f) r (λ k σ. move k line σ)

@@ -1,12 +1,10 @@
 -- Records as fields of four bytes, in the buffers that the line stage writes.
-use Prim.Native.Nat.{ℕ, _+_, _*_, _/_, _%_}
+use Prim.Native.Nat.{ℕ, _+_, _*_}
 use mathlib.Core.List.{List, [], _∷_, _++_}
 use mathlib.Core.Bool.{Bool, true, false}
 use lib.ListN.{length}
-use Rattle.numbers.specs.declared.text.Span.{Span}
 use Rattle.layout.specs.declared.line.Section.{Section}
 use Rattle.layout.specs.declared.line.Section.the-variants as section
-use Rattle.layout.specs.Pieces.{Piece}
 use Rattle.layout.specs.Directives.{le}
 use Rattle.layout.specs.Pseudos.{itemKind}
 use Rattle.layout.specs.Stage.{Place, Label, Equate, ItemLine}

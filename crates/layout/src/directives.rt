@@ -15,6 +15,8 @@ use numbers::imm::parse_imm;
 use numbers::imm::parse_imm64;
 use numbers::imm::widened;
 use numbers::ints::bits_of_i64;
+use numbers::ints::in_byte;
+use numbers::ints::in_half;
 use numbers::literals::StrLit;
 use numbers::literals::parse_str_lit;
 use numbers::operands::Operand;
@@ -41,6 +43,7 @@ ghost use Rattle.layout.specs.Stage.{dataWrite, dataLine, growBss, bssLi
 ghost use Rattle.layout.specs.Stands.{Bounded, StepBounded, CounterSteps, ImageSteps, DataSteps, SpanWithin, fixupRoom, LineIn};
 ghost use Rattle.layout.specs.Kinds.{writesOf, NameWithin, spaceOf, alignmentOf, NotZero};
 
+// What a number takes in the data: 1, 2, 4 or 8 bytes.
 pub enum Width {
     Byte,
     Half,
@@ -87,8 +90,8 @@ impl Width {
         ensures { λ r. ⌜ r ≡ rangeAt self v ⌝ }
     {
         match self {
-            Width::Byte => (0 <= v) & (v <= 255),
-            Width::Half => (0 <= v) & (v <= 65535),
+            Width::Byte => in_byte(v),
+            Width::Half => in_half(v),
             Width::Word => true,
             Width::Dword => true,
         }
@@ -298,8 +301,9 @@ fn number_line(
     }
 }
 
-// Place p moved to a multiple of n, by `.align`'s rule, which is one for powers of two.
-pub fn align_up(n: usize, p: usize) -> usize
+// Place p by .align's rule: the next multiple of n where n is a power of two; for another n what the rule gives, which
+// may be no multiple.
+fn align_up(n: usize, p: usize) -> usize
     requires { ⌜ (1 ≤ n) × (n ≤ 4294967296) × (p ≤ 4294967296) ⌝ }
     ensures { λ r. ⌜ r ≡ aligned n p ⌝ }
 {

@@ -38,6 +38,7 @@ fn is_named(text: &[u8], labels: &[u8], k: usize, name: &[u8]) -> bool
     same_bytes(span_bytes(text, Span { start, len }), name)
 }
 
+// The first of so many records that has this name.
 pub fn find_label(text: &[u8], labels: &[u8], count: usize, name: &[u8]) -> Found
     requires { ⌜ (count * 16 ≤ length (now labels)) × (length (now text) ≤ 65536) ⌝ }
     ensures { λ r. ⌜ FoundBelow count r × ((ls : List Label) → LabelTable (now (text .entry)) (now (labels .entry)) count ls → r ≡ labelFound 0 (now (name .entry)) ls) ⌝ }
@@ -52,6 +53,7 @@ pub fn find_label(text: &[u8], labels: &[u8], count: usize, name: &[u8]) -> Foun
     Found::Nothing
 }
 
+// The kth record.
 fn put_label(labels: &mut [u8], k: usize, name: Span, place: u32, line: u32)
     requires { ⌜ (k * 16 + 16 ≤ length (now labels)) × (name .start ≤ 65536) × (name .len ≤ 65536) ⌝ }
     ensures { λ _. ⌜ now (labels .exit) ≡ put (k * 16) (fieldBytes (name .start ∷ name .len ∷ place ∷ line ∷ [])) (now (labels .entry)) ⌝ }

@@ -57,7 +57,7 @@ pub enum Statement {
     Refused(u8),
 }
 
-// A line's label, or none.
+// A line's label, whose name may be empty; Unnamed is a line without one.
 pub enum LabelPart {
     Named(Span),
     Unnamed,

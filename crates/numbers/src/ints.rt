@@ -46,14 +46,14 @@ pub fn checked_sign(minus: bool, v: i64) -> Checked
 }
 
 // 8 bits without a sign: a `.byte`'s number.
-pub fn in_byte(v: i32) -> bool
+pub fn in_byte(v: i64) -> bool
     ensures { λ r. ⌜ r ≡ isByte v ⌝ }
 {
     (0 <= v) & (v <= 255)
 }
 
 // 16 bits without a sign: a `.half`'s number.
-pub fn in_half(v: i32) -> bool
+pub fn in_half(v: i64) -> bool
     ensures { λ r. ⌜ r ≡ isHalf v ⌝ }
 {
     (0 <= v) & (v <= 65535)

@@ -137,14 +137,18 @@ fn statement_agrees(input: &[u8], expected: &[u8]) -> bool {
 }
 
 fn range_agrees(kind: u8, input: &[u8], expected: &[u8]) -> bool {
-    let Imm::Value(v) = parse_imm(input) else {
+    let read = parse_imm(input);
+    let Imm::Value(v) = read else {
+        return false;
+    };
+    let Imm64::Value(wide) = widened(read) else {
         return false;
     };
     if kind == b'b' {
-        return test_agrees(in_byte(v), expected);
+        return test_agrees(in_byte(wide), expected);
     }
     if kind == b'h' {
-        return test_agrees(in_half(v), expected);
+        return test_agrees(in_half(wide), expected);
     }
     test_agrees(in_signed12(v), expected)
 }

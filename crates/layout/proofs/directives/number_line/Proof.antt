@@ -1,12 +1,11 @@
 -- `directives::number_line`: each turn stores one operand, and the others are left.
 use mathlib.Core.Path.{_≡_, refl, sym, _∙_}
-use Prim.Native.Nat.{ℕ, _+_, _-_}
+use Prim.Native.Nat.{_+_, _-_}
 use native.Mathlib.Omega.{arith}
 use lib.ListN.{length}
 use denote.Ref.{now}
 use borrow.Author.Needs.{needs}
-use Rattle.numbers.specs.Text.{spanned}
-use Rattle.numbers.specs.declared.operands.Operand.the-variants.{At, End}
+use Rattle.numbers.specs.declared.operands.Operand.the-variants.{At}
 use Rattle.numbers.specs.Operands.{operandAt}
 use Rattle.numbers.proofs.Parts.{operand-bounds}
 use Rattle.layout.specs.Stands.{SpanWithin, fixupRoom}

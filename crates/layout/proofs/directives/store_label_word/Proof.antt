@@ -1,5 +1,5 @@
 -- `directives::store_label_word`: four zeros for the address right after the data, and the name among the fixups.
-use Prim.Native.Nat.{ℕ, _+_, _*_, min, _≤_, _<_}
+use Prim.Native.Nat.{_+_, min, _≤_, _<_}
 use mathlib.Core.Path.{_≡_, refl, sym, _∙_}
 use mathlib.Core.Bool.{true}
 use native.Mathlib.Omega.{arith}
@@ -7,10 +7,8 @@ use lib.Dec.{leb}
 use lib.ListN.{length, replicate}
 use borrow.Author.Tests.{not-true, not-false}
 use borrow.Author.Needs.{needs}
-use Rattle.numbers.specs.Text.{spanned}
-use Rattle.layout.specs.Stands.{Bounded}
 use Rattle.layout.proofs.Puts.{put-lent, length-mid}
-use Rattle.layout.proofs.Standing.{within-lent, imageAt, fixupsAt, image-bounded, address-full, address-many, address-goes}
+use Rattle.layout.proofs.Standing.{within-lent, image-bounded, address-full, address-many, address-goes}
 use Rattle.layout.proofs.directives.store_label_word.Statement.{statement}
 use Rattle.layout.proofs.directives.store_label_word.Tie as tie
 
