@@ -3,3 +3,4 @@ pub mod Table
 pub mod Encoding
 pub mod Split
 pub mod Run
+pub mod code

@@ -10,12 +10,12 @@ use Rattle.encoder.specs.declared.instruction.Instruction.the-variants.{
 use Rattle.encoder.specs.Run.{extended}
 
 -- the upper part, for lui: rounded so that the signed lower part makes the number up
-abbrev pub upper : ℕ → ℕ
-upper b = (b + 2048) / 4096 % 2 ^ 20 * 4096
+abbrev pub upperPart : ℕ → ℕ
+upperPart b = (b + 2048) / 4096 % 2 ^ 20 * 4096
 
 -- the lower part, for addi: 12 signed bits, modulo 2^32
-abbrev pub lower : ℕ → ℕ
-lower b = extended (b % 4096)
+abbrev pub lowerPart : ℕ → ℕ
+lowerPart b = extended (b % 4096)
 
 -- the number whose 32 bits are b
 abbrev pub signed32 : ℕ → ℤ
@@ -23,4 +23,4 @@ signed32 b = cond (ltb b (2 ^ 31)) (pos b) (negsuc (2 ^ 32 - 1 - b))
 
 -- the pair that leaves b in rd
 abbrev pub loadPair : Register → ℕ → List Instruction
-loadPair rd b = Lui rd (signed32 (upper b)) ∷ Addi rd rd (signed32 (lower b)) ∷ []
+loadPair rd b = Lui rd (signed32 (upperPart b)) ∷ Addi rd rd (signed32 (lowerPart b)) ∷ []

@@ -18,7 +18,8 @@ use numbers::registers::Register;
 ghost use mathlib.Core.Path.{_≡_};
 ghost use mathlib.Core.Bool.{_&&_, true};
 ghost use Rattle.encoder.specs.Formats.{joined, rFields, iFields, sFields, bFields, uFields, jFields};
-ghost use Rattle.encoder.specs.Encoding.{answerOf, checked, isRegister, isBranch, isJump, isShift, isUpper, wordOf, encoding};
+ghost use Rattle.encoder.specs.Encoding.{checked, isRegister, isBranch, isJump, isShift, isUpper, wordOf, encoding};
+ghost use Rattle.encoder.specs.code.Meanings.{answerOf};
 
 // A word, refusal 22 or refusal 23.
 pub enum Encoded {
@@ -65,7 +66,8 @@ fn is_upper(imm: i32) -> bool
 }
 
 fn pack_r(opcode: u8, funct3: u8, funct7: u8, rd: Register, rs1: Register, rs2: Register) -> Encoded
-    ensures { λ r. ⌜ answerOf r ≡ checked (isRegister rd && isRegister rs1 && isRegister rs2) true (joined (rFields opcode funct3 funct7 (rd .0) (rs1 .0) (rs2 .0))) ⌝ }
+    ensures { λ r. ⌜ answerOf r ≡ checked (isRegister rd && isRegister rs1 && isRegister rs2) true
+        (joined (rFields opcode funct3 funct7 (rd .0) (rs1 .0) (rs2 .0))) ⌝ }
 {
     answer(
         is_register(rd) & is_register(rs1) & is_register(rs2),
@@ -85,7 +87,8 @@ fn pack_i(opcode: u8, funct3: u8, rd: Register, rs1: Register, fits: bool, imm: 
 }
 
 fn pack_shift(opcode: u8, funct3: u8, funct7: u8, rd: Register, rs1: Register, shamt: u8) -> Encoded
-    ensures { λ r. ⌜ answerOf r ≡ checked (isRegister rd && isRegister rs1) (isShift shamt) (joined (rFields opcode funct3 funct7 (rd .0) (rs1 .0) shamt)) ⌝ }
+    ensures { λ r. ⌜ answerOf r ≡ checked (isRegister rd && isRegister rs1) (isShift shamt)
+        (joined (rFields opcode funct3 funct7 (rd .0) (rs1 .0) shamt)) ⌝ }
 {
     answer(
         is_register(rd) & is_register(rs1),
@@ -126,7 +129,8 @@ fn pack_j(opcode: u8, rd: Register, fits: bool, imm: u32) -> Encoded
     answer(is_register(rd), fits, j_word(opcode, rd.0, imm))
 }
 
-// The word of a format's fields, or the refusal. Each immediate's test is chosen here, and its bits are taken; the words are made of bits alone.
+// The word of a format's fields, or the refusal. Each immediate's test is chosen here, and its bits are taken; the words are made
+// of bits alone.
 pub fn pack(form: Form) -> Encoded
     ensures { λ r. ⌜ answerOf r ≡ wordOf form ⌝ }
 {

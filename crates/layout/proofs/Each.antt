@@ -1,8 +1,16 @@
 -- A property of every element of a list.
+use Prim.Native.Nat.{ℕ, zero, suc, _<_}
+use native.Mathlib.Nat.{not-suc-le-zero, le-of-suc-le-suc}
+use lib.ListN.{length, getD}
 use mathlib.Core.Logic.{_⊎_, inl, inr}
 use mathlib.Core.List.{List, [], _∷_, _++_, map}
 use mathlib.Core.Bool.{Bool, true, false, cond}
-use Rattle.layout.specs.Limits.{Each}
+use Rattle.layout.specs.code.Fits.{Each}
+
+-- of one element and of the others
+infixr 4 _and_
+pub _and_ : {A B : Type 0} → A → B → A × B
+a and b = (a, b)
 
 module _ {A : Type 0} where
   -- what every element has, and more elements that have it
@@ -20,7 +28,8 @@ module _ {A : Type 0} where
   cond-has P true x y g h = g
   cond-has P false x y g h = h
 
-pub each-map : {A B : Type 0} (P : A → Type 0) (Q : B → Type 0) (f : A → B) → ((x : A) → P x → Q (f x)) → (xs : List A) → Each P xs → Each Q (map f xs)
+pub each-map : {A B : Type 0} (P : A → Type 0) (Q : B → Type 0) (f : A → B) → ((x : A) → P x → Q (f x)) → (xs : List A) → Each P xs
+    → Each Q (map f xs)
 each-map P Q f h [] g = tt
 each-map P Q f h (x ∷ xs) g = (h x (g .0), each-map P Q f h xs (g .1))
 
@@ -30,15 +39,21 @@ each-mapped Q f (x ∷ xs) g = (g .0, each-mapped Q f xs (g .1))
 
 -- a property of one element at least
 module _ {A : Type 0} where
-  abbrev pub Some : (A → Type 0) → List A → Type 0
-  Some P [] = ⊥
-  Some P (x ∷ xs) = P x ⊎ Some P xs
+  abbrev pub Any : (A → Type 0) → List A → Type 0
+  Any P [] = ⊥
+  Any P (x ∷ xs) = P x ⊎ Any P xs
 
   -- an element that has both what every element has and what one has
-  pub each-some : (P Q : A → Type 0) (xs : List A) → Each P xs → Some Q xs → (x : A) × P x × Q x
-  each-some P Q [] g s = absurd s
-  each-some P Q (x ∷ xs) g s = by s (each-some P Q xs (g .1))
+  pub each-any : (P Q : A → Type 0) (xs : List A) → Each P xs → Any Q xs → (x : A) × P x × Q x
+  each-any P Q [] g s = absurd s
+  each-any P Q (x ∷ xs) g s = by s (each-any P Q xs (g .1))
     where
-      by : Q x ⊎ Some Q xs → (Some Q xs → (x : A) × P x × Q x) → (x : A) × P x × Q x
+      by : Q x ⊎ Any Q xs → (Any Q xs → (x : A) × P x × Q x) → (x : A) × P x × Q x
       by (inl q) more = (x, g .0, q)
       by (inr s) more = more s
+
+-- the kth element
+pub each-at : {A : Type 0} (P : A → Type 0) (rs : List A) (d : A) (k : ℕ) → Each P rs → k < length rs → P (getD rs k d)
+each-at P [] d k g h = absurd (not-suc-le-zero h)
+each-at P (r ∷ rs) d zero g h = g .0
+each-at P (r ∷ rs) d (suc k) g h = each-at P rs d k (g .1) (le-of-suc-le-suc h)

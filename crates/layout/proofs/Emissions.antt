@@ -1,4 +1,4 @@
--- What an item emits: a word for each of its instructions, none refused by the encoder, each below 2^32; and how many, against what it reserves.
+-- What an item emits: a value for each of its instructions, none refused by the encoder, each below 2^32; and how many, against what it reserves.
 use Prim.Native.Nat.{ℕ, suc, _^_, _≤_, _<_}
 use mathlib.Core.Path.{_≡_, refl, ap}
 use mathlib.Core.Logic.{_⊎_, inl, inr}
@@ -10,6 +10,7 @@ use lib.IntN.{ℤ}
 use lib.ListN.{length}
 use borrow.Author.Tests.{le-leb}
 use Rattle.numbers.specs.declared.registers.Register.{Register}
+use Rattle.numbers.specs.Results.{Result, value, refused, andThen, mapped}
 use Rattle.numbers.specs.Text.{text, startsWith}
 use Rattle.numbers.specs.Ints.{isSigned12, isSigned32, bits}
 use Rattle.numbers.specs.Numbers.{immOf}
@@ -20,34 +21,30 @@ use Rattle.encoder.specs.declared.instruction.Form.{Form}
 use Rattle.encoder.specs.declared.instruction.Form.the-variants.{R, I, Shift, S, B, U, J}
 use Rattle.encoder.specs.Formats.{rFields, iFields, sFields, bFields, uFields, jFields}
 use Rattle.encoder.specs.Table.{x0, formOf}
-use Rattle.encoder.specs.Encoding as enc
-use Rattle.encoder.specs.Encoding.{Answer, word, checked, isRegister, isBranch, isJump, isShift, isUpper, wordOf, encoding}
+use Rattle.encoder.specs.Encoding.{checked, isRegister, isBranch, isJump, isShift, isUpper, wordOf, encoding}
 use Rattle.encoder.specs.Split.{loadPair}
 use Rattle.numbers.proofs.Names.{register-below}
 use Rattle.encoder.proofs.Fields.{joined-below}
 use Rattle.encoder.proofs.Load.{upper-clear, lower-small}
-use Rattle.layout.specs.declared.line.Pseudo.{Pseudo}
-use Rattle.layout.specs.declared.line.Pseudo.the-variants.{Li, La, Push, Pop, Print, PrintStr, Read, ReadByte, Random}
+use Rattle.layout.specs.declared.pseudo.Pseudo.{Pseudo}
+use Rattle.layout.specs.declared.pseudo.Pseudo.the-variants.{Li, La, Push, Pop, Print, PrintStr, Read, ReadByte, Random}
 use Rattle.layout.specs.Pseudos.{pseudoOperands, liNumber, liWords, reservedWords}
-use Rattle.layout.specs.Expansions.{Expanded, instructions, refusedBy, onRegister, oneOperand, twoOperands, onLabel, noRegister, liConstant, onNumber, liLoad, expansion}
-use Rattle.layout.specs.Layouts.{Emission, emits, refuses, onAnswer, encoded, onExpanded, emission}
-use Rattle.layout.specs.Limits.{Each}
+use Rattle.layout.specs.Expansions.{Expanded, onRegister, oneOperand, twoOperands, onLabel, noRegister, liConstant, onNumber, liLoad, expansion}
+use Rattle.layout.specs.Layouts.{encoded, emission}
+use Rattle.layout.specs.code.Fits.{Each}
 use Rattle.layout.proofs.Each.{cond-has}
+use Rattle.layout.proofs.Gives.{Comes, Gives}
 
 abbrev pub IsWord : ℕ → Type 0
 IsWord w = w < 2 ^ 32
 
--- what the encoder answers is a word
-abbrev AnswerFits : Answer → Type 0
-AnswerFits (word w) = IsWord w
-AnswerFits (enc.refused n) = Unit
-
-checked-fits : (a b : Bool) (w : ℕ) → IsWord w → AnswerFits (checked a b w)
+-- what the encoder answers
+checked-fits : (a b : Bool) (w : ℕ) → IsWord w → Gives IsWord (checked a b w)
 checked-fits false b w h = tt
 checked-fits true false w h = tt
 checked-fits true true w h = h
 
-word-fits : (f : Form) → AnswerFits (wordOf f)
+word-fits : (f : Form) → Gives IsWord (wordOf f)
 word-fits (R opcode funct3 funct7 rd rs1 rs2) =
     checked-fits (isRegister rd && isRegister rs1 && isRegister rs2) true _ (joined-below (rFields opcode funct3 funct7 (rd .0) (rs1 .0) (rs2 .0)))
 word-fits (I opcode funct3 rd rs1 imm) =
@@ -62,24 +59,23 @@ word-fits (U opcode rd imm) = checked-fits (isRegister rd) (isUpper imm) _ (join
 word-fits (J opcode rd imm) = checked-fits (isRegister rd) (isJump imm) _ (joined-below (jFields opcode (rd .0) (bits 32 imm)))
 
 -- a word for each instruction
-abbrev pub WordEach : List Instruction → Emission → Type 0
-WordEach is (emits vs) = (length vs ≡ length is) × Each IsWord vs
-WordEach is (refuses n) = Unit
+abbrev pub WordEach : List Instruction → List ℕ → Type 0
+WordEach is ws = (length ws ≡ length is) × Each IsWord ws
 
-pub encoded-each : (is : List Instruction) → WordEach is (encoded is)
+pub encoded-each : (is : List Instruction) → Gives (WordEach is) (encoded is)
 unfolding encoded
 encoded-each [] = (refl, tt)
 encoded-each (i ∷ is) = by (encoding i) (encoded is) (word-fits (formOf i)) (encoded-each is)
   where
-    by : (a : Answer) (e : Emission) → AnswerFits a → WordEach is e → WordEach (i ∷ is) (onAnswer a e)
-    by (word w) (emits vs) h g = (ap suc (g .0), (h, g .1))
-    by (word w) (refuses n) h g = tt
-    by (enc.refused n) e h g = tt
+    by : (a : Result ℕ ℕ) (x : Result ℕ (List ℕ)) → Gives IsWord a → Gives (WordEach is) x
+        → Gives (WordEach (i ∷ is)) (andThen a (λ w. mapped (λ ws. w ∷ ws) x))
+    by (value w) (value ws) h g = (ap suc (g .0), (h, g .1))
+    by (value w) (refused n) h g = tt
+    by (refused n) x h g = tt
 
 -- no refusal
-abbrev pub Taken : Emission → Type 0
-Taken (emits vs) = Unit
-Taken (refuses n) = ⊥
+abbrev pub Taken : Result ℕ (List ℕ) → Type 0
+Taken x = Comes (λ _. Unit) (λ _. ⊥) x
 
 -- "18 pseudo operand count, bad register", "19 li operand", "20 label not found"
 abbrev pub PseudoRefusal : ℕ → Type 0
@@ -87,8 +83,7 @@ PseudoRefusal n = (n ≡ 18) ⊎ (n ≡ 19) ⊎ (n ≡ 20)
 
 -- one instruction at least, as many as C allows, and the encoder takes them all
 abbrev pub ExpandedFits : (ℕ → Type 0) → Expanded → Type 0
-ExpandedFits C (instructions is) = (1 ≤ length is) × C (length is) × Taken (encoded is)
-ExpandedFits C (refusedBy n) = PseudoRefusal n
+ExpandedFits C x = Comes (λ is. (1 ≤ length is) × C (length is) × Taken (encoded is)) PseudoRefusal x
 
 module _ (C : ℕ → Type 0) where
   on-register : (a : List ℕ) (f : Register → Expanded) → ((r : Register) → isRegister r ≡ true → ExpandedFits C (f r))
@@ -120,18 +115,19 @@ module _ (C : ℕ → Type 0) where
       → ExpandedFits C (oneOperand ops (λ a. noRegister (registerOf a) (onLabel (label a) f)))
   one-label label ops f g = one-operand ops _ (λ a. no-register (registerOf a) _ (on-label (label a) f g))
 
-  two-operands : (ops : List (List ℕ)) (f : List ℕ → List ℕ → Expanded) → ((a b : List ℕ) → ExpandedFits C (f a b)) → ExpandedFits C (twoOperands ops f)
+  two-operands : (ops : List (List ℕ)) (f : List ℕ → List ℕ → Expanded) → ((a b : List ℕ) → ExpandedFits C (f a b))
+      → ExpandedFits C (twoOperands ops f)
   two-operands [] f g = inl refl
   two-operands (a ∷ []) f g = inl refl
   two-operands (a ∷ b ∷ []) f g = g a b
   two-operands (a ∷ b ∷ c ∷ cs) f g = inl refl
 
-  -- li by its two cases: one word where the number is small, else two
+  -- li by its two cases: one value where the number is small, else two
   load-fits : (rd : Register) (z : ℤ) → isRegister rd ≡ true → C (liNumber (some z)) → ExpandedFits C (liLoad rd z)
   unfolding encoded
   load-fits rd z r h = by (isSigned12 z) refl h
     where
-      by : (c : Bool) → isSigned12 z ≡ c → C (cond c 1 2) → ExpandedFits C (instructions (cond c (Addi rd x0 z ∷ []) (loadPair rd (bits 32 z))))
+      by : (c : Bool) → isSigned12 z ≡ c → C (cond c 1 2) → ExpandedFits C (value (cond c (Addi rd x0 z ∷ []) (loadPair rd (bits 32 z))))
       by true e h = (omega arith, h, rw (r, e) tt)
       by false e h = (omega arith, h, rw (r, upper-clear (bits 32 z), lower-small (bits 32 z)) tt)
 
@@ -141,11 +137,11 @@ module _ (C : ℕ → Type 0) where
   number-fits const rd b (some z) r h = load-fits rd z r h
   number-fits const rd b none r h = by (startsWith (text "'") b) (const b) h
     where
-      last : (z : ℤ) (c : Bool) → C (liNumber (some z)) → ExpandedFits C (cond c (liLoad rd z) (refusedBy 19))
+      last : (z : ℤ) (c : Bool) → C (liNumber (some z)) → ExpandedFits C (cond c (liLoad rd z) (refused 19))
       last z true h = load-fits rd z r h
       last z false h = inr (inl refl)
 
-      by : (c : Bool) (o : Option ℤ) → C (liNumber o) → ExpandedFits C (cond c (refusedBy 19) (liConstant o (liLoad rd)))
+      by : (c : Bool) (o : Option ℤ) → C (liNumber o) → ExpandedFits C (cond c (refused 19) (liConstant o (liLoad rd)))
       by true o h = inr (inl refl)
       by false none h = inr (inl refl)
       by false (some z) h = last z (isSigned32 z) h
@@ -183,53 +179,65 @@ few const item s n h = go (h .0)
     go (inr e) = rw (e, h .1 e) (by (pseudoOperands s))
 
 -- the words of an item, and how many
-abbrev pub EmissionFits : (List ℕ → Option ℤ) → Option Pseudo → List ℕ → Emission → Type 0
-EmissionFits const item s (emits vs) =
-    (1 ≤ length vs) × (length vs ≤ reservedWords item s) × Each IsWord vs × Sized const item s (pseudoOperands s) (length vs)
-EmissionFits const item s (refuses n) = PseudoRefusal n
+abbrev pub WordsFit : (List ℕ → Option ℤ) → Option Pseudo → List ℕ → List ℕ → Type 0
+WordsFit const item s ws =
+    (1 ≤ length ws) × (length ws ≤ reservedWords item s) × Each IsWord ws × Sized const item s (pseudoOperands s) (length ws)
 
 module _ (const : List ℕ → Option ℤ) (label : List ℕ → Option ℕ) where
+  abbrev Count : Pseudo → List ℕ → List (List ℕ) → ℕ → Type 0
+  Count p s ops = Sized const (some p) s ops
+
   -- each of the nine, of any operands
   pub expansion-fits : (p : Pseudo) (s : List ℕ) (ops : List (List ℕ)) → ExpandedFits (Sized const (some p) s ops) (expansion const label p ops)
   unfolding expansion encoded
   expansion-fits Li s [] = inl refl
   expansion-fits Li s (a ∷ []) = inl refl
-  expansion-fits Li s (a ∷ b ∷ []) = on-register _ a _ (λ rd r. number-fits _ const rd b (immOf b) r (inr refl, λ e. refl))
+  expansion-fits Li s (a ∷ b ∷ []) =
+      let C = Count Li s (a ∷ b ∷ []) in
+      on-register C a _ (λ rd r. number-fits C const rd b (immOf b) r (inr refl, λ e. refl))
   expansion-fits Li s (a ∷ b ∷ c ∷ cs) = inl refl
   expansion-fits La s ops =
-      two-operands _ ops _ (λ a b. on-register _ a _ (λ rd r. on-label _ (label b) _ (λ n. (omega arith, (inl refl, λ e. cc), rw (r, upper-clear n, lower-small n) tt))))
-  expansion-fits Push s ops = one-register _ ops _ (λ rs r. (omega arith, (inl refl, λ e. cc), rw r tt))
-  expansion-fits Pop s ops = one-register _ ops _ (λ rd r. (omega arith, (inl refl, λ e. cc), rw r tt))
-  expansion-fits Print s ops = one-register _ ops _ (λ rd r. (omega arith, (inl refl, λ e. cc), rw r tt))
-  expansion-fits PrintStr s ops = one-label _ label ops _ (λ n. (omega arith, (inl refl, λ e. cc), rw (upper-clear n, lower-small n) tt))
-  expansion-fits Read s ops = one-label _ label ops _ (λ n. (omega arith, (inl refl, λ e. cc), rw (upper-clear n, lower-small n) tt))
-  expansion-fits ReadByte s ops = one-label _ label ops _ (λ n. (omega arith, (inl refl, λ e. cc), rw (upper-clear n, lower-small n) tt))
-  expansion-fits Random s ops = one-register _ ops _ (λ rd r. (omega arith, (inl refl, λ e. cc), rw r tt))
+      let C = Count La s ops in
+      two-operands C ops _ (λ a b.
+      on-register C a _ (λ rd r.
+      on-label C (label b) _ (λ n. (omega arith, (inl refl, λ e. cc), rw (r, upper-clear n, lower-small n) tt))))
+  expansion-fits Push s ops = one-register (Count Push s ops) ops _ (λ rs r. (omega arith, (inl refl, λ e. cc), rw r tt))
+  expansion-fits Pop s ops = one-register (Count Pop s ops) ops _ (λ rd r. (omega arith, (inl refl, λ e. cc), rw r tt))
+  expansion-fits Print s ops = one-register (Count Print s ops) ops _ (λ rd r. (omega arith, (inl refl, λ e. cc), rw r tt))
+  expansion-fits PrintStr s ops =
+      one-label (Count PrintStr s ops) label ops _ (λ n. (omega arith, (inl refl, λ e. cc), rw (upper-clear n, lower-small n) tt))
+  expansion-fits Read s ops =
+      one-label (Count Read s ops) label ops _ (λ n. (omega arith, (inl refl, λ e. cc), rw (upper-clear n, lower-small n) tt))
+  expansion-fits ReadByte s ops =
+      one-label (Count ReadByte s ops) label ops _ (λ n. (omega arith, (inl refl, λ e. cc), rw (upper-clear n, lower-small n) tt))
+  expansion-fits Random s ops = one-register (Count Random s ops) ops _ (λ rd r. (omega arith, (inl refl, λ e. cc), rw r tt))
 
   -- the encoder refuses no expansion
-  pub expansion-encodes : (p : Pseudo) (ops : List (List ℕ)) (is : List Instruction) → expansion const label p ops ≡ instructions is
-      → (ws : List ℕ) × (encoded is ≡ emits ws) × (length ws ≡ length is)
+  pub expansion-encodes : (p : Pseudo) (ops : List (List ℕ)) (is : List Instruction) → expansion const label p ops ≡ value is
+      → (ws : List ℕ) × (encoded is ≡ value ws) × (length ws ≡ length is)
   expansion-encodes p ops is e = by (encoded is) ((rw e at (expansion-fits p [] ops)) .2) (encoded-each is)
     where
-      by : (x : Emission) → Taken x → WordEach is x → (ws : List ℕ) × (x ≡ emits ws) × (length ws ≡ length is)
-      by (emits ws) k g = (ws, refl, g .0)
-      by (refuses n) k g = absurd k
+      by : (x : Result ℕ (List ℕ)) → Taken x → Gives (WordEach is) x → (ws : List ℕ) × (x ≡ value ws) × (length ws ≡ length is)
+      by (value ws) k g = (ws, refl, g .0)
+      by (refused n) k g = absurd k
 
-  pub emission-fits : (item : Option Pseudo) (s : List ℕ) → EmissionFits const item s (emission const label item s)
+  -- what an item emits, or 18, 19 or 20
+  pub emission-fits : (item : Option Pseudo) (s : List ℕ) → Comes (WordsFit const item s) PseudoRefusal (emission const label item s)
   emission-fits none s = (omega arith, omega arith, (omega arith, tt), (inl refl, λ e. cc))
   emission-fits (some p) s = by (expansion const label p (pseudoOperands s)) (expansion-fits p s (pseudoOperands s))
     where
       C : ℕ → Type 0
       C = Sized const (some p) s (pseudoOperands s)
 
-      all : (is : List Instruction) (e : Emission) → 1 ≤ length is → C (length is) → Taken e → WordEach is e → EmissionFits const (some p) s e
-      all is (emits vs) h c k g = rw (g .0) (h, few const (some p) s (length is) c, g .1, c)
-      all is (refuses n) h c k g = absurd k
+      all : (is : List Instruction) (x : Result ℕ (List ℕ)) → 1 ≤ length is → C (length is) → Taken x → Gives (WordEach is) x
+          → Comes (WordsFit const (some p) s) PseudoRefusal x
+      all is (value ws) h c k g = rw (g .0) (h, few const (some p) s (length is) c, g .1, c)
+      all is (refused n) h c k g = absurd k
 
-      by : (x : Expanded) → ExpandedFits C x → EmissionFits const (some p) s (onExpanded x)
-      by (instructions is) h = all is (encoded is) (h .0) (h .1) (h .2) (encoded-each is)
-      by (refusedBy n) h = h
+      by : (x : Expanded) → ExpandedFits C x → Comes (WordsFit const (some p) s) PseudoRefusal (andThen x encoded)
+      by (value is) h = all is (encoded is) (h .0) (h .1) (h .2) (encoded-each is)
+      by (refused n) h = h
 
   -- an item is refused by 18, 19 or 20 alone
-  pub emission-refused : (item : Option Pseudo) (s : List ℕ) (n : ℕ) → emission const label item s ≡ refuses n → PseudoRefusal n
+  pub emission-refused : (item : Option Pseudo) (s : List ℕ) (n : ℕ) → emission const label item s ≡ refused n → PseudoRefusal n
   emission-refused item s n e = rw e at (emission-fits item s)

@@ -10,28 +10,28 @@ use lib.Dec.{eqb}
 use lib.IntN.{ℤ}
 use lib.ListN.{length, take, drop, length-drop}
 use borrow.Author.Tests.{eqb-true, eqb-false}
+use Rattle.numbers.specs.Results.{Result, value, refused, andThen}
 use Rattle.numbers.specs.Text.{byte, leading}
 use Rattle.numbers.specs.Numbers.{prefixed}
 use Rattle.numbers.proofs.Bools.{none-some}
-use Rattle.layout.specs.Expressions.{plus, minus, unreadable, isBlank, isDigit, isNameByte, isNumberByte, Scanned, numberToken, nameToken, scan, tokensIn, tokens, Evaluated, value, waits, refused}
-use Rattle.layout.specs.Stage.{State, Equate}
-use Rattle.layout.specs.Rounds.{Found, Known, pendingEquate, turn, Round, through, stopped, afterTurn, passOne, pass, pendingCount, firstPending, rounds}
-use Rattle.layout.specs.Limits.{Each}
-use Rattle.layout.proofs.Each.{Some}
+use Rattle.layout.specs.Bytes.{isDigit}
+use Rattle.layout.specs.Refusals.{Refusal}
+use Rattle.layout.specs.Expressions.{plus, minus, unreadable, isBlank, isNameByte, isNumberByte, Scanned, numberToken, nameToken, scan}
+use Rattle.layout.specs.Expressions.{tokensIn, tokens, Evaluated}
+use Rattle.layout.specs.State.{State, Equate}
+use Rattle.layout.specs.Rounds.{Found, Known, pendingEquate, turn, Turns, turns, afterTurn, passOne, pass, pendingCount, firstPending}
+use Rattle.layout.specs.Rounds.{unresolved, rounds}
+use Rattle.layout.specs.Layouts.{resolve}
+use Rattle.layout.specs.code.Fits.{Each}
+use Rattle.layout.proofs.Each.{Any}
+use Rattle.layout.proofs.Gives.{Comes, Gives, comes-so, and-then-comes, at-line-comes}
 
--- what holds where a round goes through, and of the line where it stops
-abbrev pub Comes : (List Known → ℕ → Type 0) → (ℕ → Type 0) → Round → Type 0
-Comes P Q (through ks n) = P ks n
-Comes P Q (stopped m line) = Q line
+-- one of the equates stands at this line; a refusal at such a line
+abbrev pub AtLine : List Known → ℕ → Type 0
+AtLine ks line = Any (λ k. k .equate .line ≡ line) ks
 
-comes-so : (P P′ : List Known → ℕ → Type 0) (Q Q′ : ℕ → Type 0) → ((ks : List Known) (n : ℕ) → P ks n → P′ ks n) → ((line : ℕ) → Q line → Q′ line)
-    → (x : Round) → Comes P Q x → Comes P′ Q′ x
-comes-so P P′ Q Q′ f g (through ks n) h = f ks n h
-comes-so P P′ Q Q′ f g (stopped m line) h = g line h
-
--- one of the equates stands at this line
-abbrev pub AtLine : ℕ → List Known → Type 0
-AtLine line ks = Some (λ k. k .equate .line ≡ line) ks
+abbrev pub AtEquate : List Known → Refusal → Type 0
+AtEquate ks r = AtLine ks (r .line)
 
 pending-here : (k : Known) (ks : List Known) → k .found ≡ none → pendingCount (k ∷ ks) ≡ suc (pendingCount ks)
 unfolding pendingCount
@@ -72,61 +72,64 @@ module _ (base : ℕ) (σ : State) where
   pub data Turned (r : ℕ) : List Known → List Known → Type 0 where
     no-more : Turned r [] []
     kept : {k : Known} {ks ls : List Known} (f : Found) → k .found ≡ some f → Turned r ks ls → Turned r (k ∷ ks) (k ∷ ls)
-    gained : {k : Known} {ks ls : List Known} (z : ℤ) (seen : List Known) → k .found ≡ none → turn base σ seen (k .equate) ≡ value z → Turned r ks ls
-        → Turned r (k ∷ ks) (record { equate = k .equate; found = some (record { value = z; round = r }) } ∷ ls)
+    gained : {k : Known} {ks ls : List Known} (z : ℤ) (seen : List Known) → k .found ≡ none → turn base σ seen (k .equate) ≡ value (some z)
+        → Turned r ks ls → Turned r (k ∷ ks) (record { equate = k .equate; found = some (record { value = z; round = r }) } ∷ ls)
     waiting : {k : Known} {ks ls : List Known} → k .found ≡ none → Turned r ks ls → Turned r (k ∷ ks) (pendingEquate (k .equate) ∷ ls)
 
   -- what a round leaves: the equates, each with its turn, and one evaluation more for each that was pending
-  pub record Passed (r : ℕ) (ks : List Known) (n : ℕ) (next : List Known) (m : ℕ) : Type 0 where
-    pub turned : Turned r ks next
-    pub evaluated : m ≡ n + pendingCount ks
+  pub record Passed (r : ℕ) (ks : List Known) (n : ℕ) (x : Turns) : Type 0 where
+    pub turned : Turned r ks (x .known)
+    pub evaluated : x .evaluations ≡ n + pendingCount ks
 
   -- the same where `done` stands before them
-  record PassedAfter (r : ℕ) (done ks : List Known) (n : ℕ) (next : List Known) (m : ℕ) : Type 0 where
+  record PassedAfter (r : ℕ) (done ks : List Known) (n : ℕ) (x : Turns) : Type 0 where
     after : List Known
-    are : next ≡ done ++ after
-    passed : Passed r ks n after m
+    are : x .known ≡ done ++ after
+    passed : Passed r ks n (turns after (x .evaluations))
 
-  pass-after : (r : ℕ) (done ks : List Known) (n : ℕ) → Comes (PassedAfter r done ks n) (λ line. AtLine line ks) (pass base σ r done ks n)
+  -- of the first of them
+  record FirstPassed (r : ℕ) (done : List Known) (k : Known) (ks : List Known) (n : ℕ) (x : Turns) : Type 0 where
+    now : Known
+    are : x .known ≡ done ++ now ∷ []
+    turned : (ls : List Known) → Turned r ks ls → Turned r (k ∷ ks) (now ∷ ls)
+    evaluated : x .evaluations + pendingCount ks ≡ n + pendingCount (k ∷ ks)
+
+  first-passes : (r : ℕ) (done : List Known) (k : Known) (ks : List Known) (n : ℕ)
+      → Comes (FirstPassed r done k ks n) (AtEquate (k ∷ ks)) (passOne base σ r done k ks n (k .found))
+  first-passes r done k ks n = by (k .found) refl
+    where
+      late : (v : Evaluated) → turn base σ (done ++ k ∷ ks) (k .equate) ≡ v → k .found ≡ none
+          → Gives (FirstPassed r done k ks n) (afterTurn r done (k .equate) n v)
+      late (value (some z)) q e =
+          record { now = _; are = refl; turned = λ ls g. gained z (done ++ k ∷ ks) e q g; evaluated = omega (arith, pending-here k ks e) }
+      late (value none) q e = record { now = _; are = refl; turned = λ ls g. waiting e g; evaluated = omega (arith, pending-here k ks e) }
+      late (refused m) q e = tt
+
+      by : (o : Option Found) → k .found ≡ o → Comes (FirstPassed r done k ks n) (AtEquate (k ∷ ks)) (passOne base σ r done k ks n o)
+      by (some f) e = record { now = k; are = refl; turned = λ ls g. kept f e g; evaluated = omega (arith, found-here k ks f e) }
+      by none e =
+          let v = turn base σ (done ++ k ∷ ks) (k .equate) in
+          at-line-comes (FirstPassed r done k ks n) (AtLine (k ∷ ks)) (k .equate .line) (afterTurn r done (k .equate) n v) (inl refl) (late v refl e)
+
+  pass-after : (r : ℕ) (done ks : List Known) (n : ℕ) → Comes (PassedAfter r done ks n) (AtEquate ks) (pass base σ r done ks n)
   unfolding pass pendingCount
   pass-after r done [] n = record { after = []; are = sym (append-nil done); passed = record { turned = no-more; evaluated = omega arith } }
-  pass-after r done (k ∷ ks) n = by (k .found) refl (λ d m. pass-after r d ks m)
-    where
-      rest : List Known → ℕ → Round
-      rest d m = pass base σ r d ks m
+  pass-after r done (k ∷ ks) n =
+      and-then-comes (FirstPassed r done k ks n) (PassedAfter r done (k ∷ ks) n) (AtEquate (k ∷ ks)) (passOne base σ r done k ks n (k .found))
+      (λ x. pass base σ r (x .known) ks (x .evaluations)) (first-passes r done k ks n) (λ x f.
+      comes-so (PassedAfter r (x .known) ks (x .evaluations)) (PassedAfter r done (k ∷ ks) n) (AtEquate ks) (AtEquate (k ∷ ks))
+      (λ y p. record {
+        after = f .now ∷ p .after;
+        are = p .are ∙ ap (λ ds. ds ++ p .after) (f .are) ∙ append-assoc done (f .now ∷ []) (p .after);
+        passed = record { turned = f .turned (p .after) (p .passed .turned); evaluated = p .passed .evaluated ∙ f .evaluated };
+      })
+      (λ y s. inr s) (pass base σ r (x .known) ks (x .evaluations)) (pass-after r (x .known) ks (x .evaluations)))
 
-      -- the first equate's turn, and the others'
-      more : (l : Known) (m : ℕ) → ((ls : List Known) → Turned r ks ls → Turned r (k ∷ ks) (l ∷ ls)) → m + pendingCount ks ≡ n + pendingCount (k ∷ ks)
-          → Comes (PassedAfter r (done ++ l ∷ []) ks m) (λ line. AtLine line ks) (rest (done ++ l ∷ []) m)
-          → Comes (PassedAfter r done (k ∷ ks) n) (λ line. AtLine line (k ∷ ks)) (rest (done ++ l ∷ []) m)
-      more l m f e =
-          comes-so _ _ _ _
-          (λ next m′ p.
-          record {
-            after = l ∷ p .after;
-            are = p .are ∙ append-assoc done (l ∷ []) (p .after);
-            passed = record { turned = f (p .after) (p .passed .turned); evaluated = p .passed .evaluated ∙ e };
-          })
-          (λ line s. inr s)
-          (rest (done ++ l ∷ []) m)
-
-      late : (v : Evaluated) → turn base σ (done ++ k ∷ ks) (k .equate) ≡ v → k .found ≡ none
-          → ((d : List Known) (m : ℕ) → Comes (PassedAfter r d ks m) (λ line. AtLine line ks) (rest d m))
-          → Comes (PassedAfter r done (k ∷ ks) n) (λ line. AtLine line (k ∷ ks)) (afterTurn r done (k .equate) n v rest)
-      late (value z) q e ih = more _ (suc n) (λ ls g. gained z (done ++ k ∷ ks) e q g) (omega (arith, pending-here k ks e)) (ih _ (suc n))
-      late waits q e ih = more (pendingEquate (k .equate)) (suc n) (λ ls g. waiting e g) (omega (arith, pending-here k ks e)) (ih _ (suc n))
-      late (refused m) q e ih = inl refl
-
-      by : (o : Option Found) → k .found ≡ o
-          → ((d : List Known) (m : ℕ) → Comes (PassedAfter r d ks m) (λ line. AtLine line ks) (rest d m))
-          → Comes (PassedAfter r done (k ∷ ks) n) (λ line. AtLine line (k ∷ ks)) (passOne base σ r done k ks n o rest)
-      by (some f) e ih = more k n (λ ls g. kept f e g) (omega (arith, found-here k ks f e)) (ih _ n)
-      by none e ih = late (turn base σ (done ++ k ∷ ks) (k .equate)) refl e ih
-
-  pub pass-turns : (r : ℕ) (ks : List Known) (n : ℕ) → Comes (Passed r ks n) (λ line. AtLine line ks) (pass base σ r [] ks n)
+  pub pass-turns : (r : ℕ) (ks : List Known) (n : ℕ) → Comes (Passed r ks n) (AtEquate ks) (pass base σ r [] ks n)
   pass-turns r ks n =
-      comes-so (PassedAfter r [] ks n) (Passed r ks n) (λ line. AtLine line ks) (λ line. AtLine line ks)
-      (λ next m p. rw (p .are) (p .passed)) (λ line s. s) (pass base σ r [] ks n) (pass-after r [] ks n)
+      comes-so (PassedAfter r [] ks n) (Passed r ks n) (AtEquate ks) (AtEquate ks)
+      (λ x p. record { turned = rw (p .are) (p .passed .turned); evaluated = p .passed .evaluated }) (λ x s. s)
+      (pass base σ r [] ks n) (pass-after r [] ks n)
 
   -- a round never leaves more pending than before
   pub turned-pending : {r : ℕ} {ks ls : List Known} → Turned r ks ls → pendingCount ls ≤ pendingCount ks
@@ -143,7 +146,7 @@ module _ (base : ℕ) (σ : State) where
   turned-equates (gained {k = k} z seen e q g) = ap (λ es. k .equate ∷ es) (turned-equates g)
   turned-equates (waiting {k = k} e g) = ap (λ es. k .equate ∷ es) (turned-equates g)
 
-  turned-at : {r : ℕ} {ks ls : List Known} (line : ℕ) → Turned r ks ls → AtLine line ls → AtLine line ks
+  turned-at : {r : ℕ} {ks ls : List Known} (line : ℕ) → Turned r ks ls → AtLine ls line → AtLine ks line
   turned-at line no-more s = s
   turned-at line (kept f e g) (inl q) = inl q
   turned-at line (kept f e g) (inr s) = inr (turned-at line g s)
@@ -154,34 +157,41 @@ module _ (base : ℕ) (σ : State) where
 
   -- ---- the fuel
 
+  -- what follows a round, with so many turns left
+  abbrev afterPass : ℕ → ℕ → List Known → Turns → Result Refusal Turns
+  afterPass fuel r ks x =
+      elim (eqb (pendingCount (x .known)) (pendingCount ks)) [
+        | true ↦ refused (unresolved (x .known))
+        | false ↦ rounds base σ fuel (suc r) (x .known) (x .evaluations)
+      ]
+
   -- with more turns than equates are pending, how many more they are changes nothing
-  pub rounds-fuel : (a b r : ℕ) (ks : List Known) (n : ℕ) → pendingCount ks < a → pendingCount ks < b → rounds base σ a r ks n ≡ rounds base σ b r ks n
+  pub rounds-fuel : (a b r : ℕ) (ks : List Known) (n : ℕ) → pendingCount ks < a → pendingCount ks < b
+      → rounds base σ a r ks n ≡ rounds base σ b r ks n
   unfolding rounds
   rounds-fuel zero b r ks n h i = absurd (omega arith)
   rounds-fuel (suc a) zero r ks n h i = absurd (omega arith)
   rounds-fuel (suc a) (suc b) r ks n h i = by (eqb (pendingCount ks) 0) (pass base σ r [] ks n) (pass-turns r ks n) (rounds-fuel a b (suc r))
     where
-      after : ℕ → Round → Round
-      after c x = elim x [
-        | stopped m line ↦ stopped m line
-        | through next m ↦ elim (eqb (pendingCount next) (pendingCount ks)) [ true ↦ stopped 17 (firstPending next) | false ↦ rounds base σ c (suc r) next m ]
-      ]
-
-      last : (next : List Known) (m : ℕ) (c : Bool) → eqb (pendingCount next) (pendingCount ks) ≡ c → Turned r ks next
-          → (pendingCount next < a → pendingCount next < b → rounds base σ a (suc r) next m ≡ rounds base σ b (suc r) next m)
-          → _≡_ {A = Round} (elim c [ true ↦ stopped 17 (firstPending next) | false ↦ rounds base σ a (suc r) next m ])
-          (elim c [ true ↦ stopped 17 (firstPending next) | false ↦ rounds base σ b (suc r) next m ])
-      last next m true q g ih = refl
-      last next m false q g ih =
-          let fewer : pendingCount next < pendingCount ks = omega (arith, turned-pending g, eqb-false (pendingCount next) (pendingCount ks) q) in
+      last : (x : Turns) (c : Bool) → eqb (pendingCount (x .known)) (pendingCount ks) ≡ c → Turned r ks (x .known)
+          → (pendingCount (x .known) < a → pendingCount (x .known) < b
+          → rounds base σ a (suc r) (x .known) (x .evaluations) ≡ rounds base σ b (suc r) (x .known) (x .evaluations))
+          → _≡_ {A = Result Refusal Turns}
+          (elim c [ true ↦ refused (unresolved (x .known)) | false ↦ rounds base σ a (suc r) (x .known) (x .evaluations) ])
+          (elim c [ true ↦ refused (unresolved (x .known)) | false ↦ rounds base σ b (suc r) (x .known) (x .evaluations) ])
+      last x true q g ih = refl
+      last x false q g ih =
+          let fewer : pendingCount (x .known) < pendingCount ks =
+          omega (arith, turned-pending g, eqb-false (pendingCount (x .known)) (pendingCount ks) q) in
           ih (omega arith) (omega arith)
 
-      by : (c : Bool) (x : Round) → Comes (Passed r ks n) (λ line. AtLine line ks) x
+      by : (c : Bool) (x : Result Refusal Turns) → Comes (Passed r ks n) (AtEquate ks) x
           → ((ls : List Known) (m : ℕ) → pendingCount ls < a → pendingCount ls < b → rounds base σ a (suc r) ls m ≡ rounds base σ b (suc r) ls m)
-          → _≡_ {A = Round} (elim c [ true ↦ through ks n | false ↦ after a x ]) (elim c [ true ↦ through ks n | false ↦ after b x ])
+          → _≡_ {A = Result Refusal Turns} (elim c [ true ↦ value (turns ks n) | false ↦ andThen x (afterPass a r ks) ])
+          (elim c [ true ↦ value (turns ks n) | false ↦ andThen x (afterPass b r ks) ])
       by true x g ih = refl
-      by false (stopped m line) g ih = refl
-      by false (through next m) g ih = last next m (eqb (pendingCount next) (pendingCount ks)) refl (g .turned) (ih next m)
+      by false (refused m) g ih = refl
+      by false (value x) g ih = last x (eqb (pendingCount (x .known)) (pendingCount ks)) refl (g .turned) (ih (x .known) (x .evaluations))
 
   -- ---- what the rounds leave
 
@@ -190,7 +200,7 @@ module _ (base : ℕ) (σ : State) where
     pub from : 1 ≤ f .round
     pub to : f .round ≤ n
     pub known : List Known
-    pub gave : turn base σ known e ≡ value (f .value)
+    pub gave : turn base σ known e ≡ value (some (f .value))
 
   -- so it is with an equate's value, if it has one
   abbrev pub Told : ℕ → Known → Type 0
@@ -220,66 +230,64 @@ module _ (base : ℕ) (σ : State) where
       by (some f) p more = (record { found = f; is = p; dated = t .0 f p }, more (omega (arith, found-here k ks f p)) (t .1))
 
   -- where 17 stands, an equate does
-  first-pending : (ks : List Known) → 0 < pendingCount ks → AtLine (firstPending ks) ks
+  first-pending : (ks : List Known) → 0 < pendingCount ks → AtLine ks (firstPending ks)
   unfolding firstPending pendingCount
   first-pending [] h = absurd (omega arith)
   first-pending (k ∷ ks) h = by (k .found) refl (first-pending ks)
     where
-      by : (o : Option Found) → k .found ≡ o → (0 < pendingCount ks → AtLine (firstPending ks) ks) → AtLine (elim o [ none ↦ k .equate .line | some f ↦ firstPending ks ]) (k ∷ ks)
+      by : (o : Option Found) → k .found ≡ o → (0 < pendingCount ks → AtLine ks (firstPending ks))
+          → AtLine (k ∷ ks) (elim o [ none ↦ k .equate .line | some f ↦ firstPending ks ])
       by none p more = inl refl
       by (some f) p more = inr (more (omega (arith, found-here k ks f p)))
 
   -- what rounds that go through leave: the equates that they began with, each found in a round from 1 to last, and no more evaluations than if
   -- each round had found one
-  pub record Ended (last : ℕ) (ks : List Known) (n : ℕ) (ls : List Known) (m : ℕ) : Type 0 where
-    pub none-pending : pendingCount ls ≡ 0
-    pub equates : map (λ k. k .equate) ls ≡ map (λ k. k .equate) ks
-    pub each : Each (Resolved last) ls
-    pub evaluations : m ≤ n + triangle (pendingCount ks)
+  pub record Ended (last : ℕ) (ks : List Known) (n : ℕ) (x : Turns) : Type 0 where
+    pub none-pending : pendingCount (x .known) ≡ 0
+    pub equates : map (λ k. k .equate) (x .known) ≡ map (λ k. k .equate) ks
+    pub each : Each (Resolved last) (x .known)
+    pub evaluations : x .evaluations ≤ n + triangle (pendingCount ks)
 
   -- rounds with fuel enough end so, or stop at an equate's line
   pub rounds-end : (last fuel r : ℕ) (ks : List Known) (n : ℕ) → pendingCount ks < fuel → 1 ≤ r → r + pendingCount ks ≤ suc last → Each (Told last) ks
-      → Comes (Ended last ks n) (λ line. AtLine line ks) (rounds base σ fuel r ks n)
+      → Comes (Ended last ks n) (AtEquate ks) (rounds base σ fuel r ks n)
   unfolding rounds
   rounds-end last zero r ks n h i j t = absurd (omega arith)
-  rounds-end last (suc fuel) r ks n h i j t = by (eqb (pendingCount ks) 0) refl (pass base σ r [] ks n) (pass-turns r ks n) (rounds-end last fuel (suc r))
+  rounds-end last (suc fuel) r ks n h i j t = by (eqb (pendingCount ks) 0) refl (rounds-end last fuel (suc r))
     where
-      Good : Round → Type 0
-      Good x = Comes (Ended last ks n) (λ line. AtLine line ks) x
+      Good : Result Refusal Turns → Type 0
+      Good x = Comes (Ended last ks n) (AtEquate ks) x
 
       Rest : Type 0
       Rest = (ls : List Known) (m : ℕ) → pendingCount ls < fuel → 1 ≤ suc r → suc r + pendingCount ls ≤ suc last → Each (Told last) ls
-          → Comes (Ended last ls m) (λ line. AtLine line ls) (rounds base σ fuel (suc r) ls m)
+          → Comes (Ended last ls m) (AtEquate ls) (rounds base σ fuel (suc r) ls m)
 
-      next-round : (next : List Known) (m : ℕ) (c : Bool) → eqb (pendingCount next) (pendingCount ks) ≡ c → 0 < pendingCount ks → Passed r ks n next m → Rest
-          → Good (elim c [ true ↦ stopped 17 (firstPending next) | false ↦ rounds base σ fuel (suc r) next m ])
-      next-round next m true q s g ih = turned-at _ (g .turned) (first-pending next (omega (arith, eqb-true (pendingCount next) (pendingCount ks) q)))
-      next-round next m false q s g ih =
-          let fewer : pendingCount next < pendingCount ks = omega (arith, turned-pending (g .turned), eqb-false (pendingCount next) (pendingCount ks) q) in
-          comes-so _ _ _ _
-          (λ ls m′ e. record {
+      next-round : (x : Turns) (c : Bool) → eqb (pendingCount (x .known)) (pendingCount ks) ≡ c → 0 < pendingCount ks → Passed r ks n x → Rest
+          → Good (elim c [ true ↦ refused (unresolved (x .known)) | false ↦ rounds base σ fuel (suc r) (x .known) (x .evaluations) ])
+      next-round x true q s g ih =
+          turned-at _ (g .turned) (first-pending (x .known) (omega (arith, eqb-true (pendingCount (x .known)) (pendingCount ks) q)))
+      next-round x false q s g ih =
+          let fewer : pendingCount (x .known) < pendingCount ks =
+          omega (arith, turned-pending (g .turned), eqb-false (pendingCount (x .known)) (pendingCount ks) q) in
+          comes-so (Ended last (x .known) (x .evaluations)) (Ended last ks n) (AtEquate (x .known)) (AtEquate ks)
+          (λ y e. record {
             none-pending = e .none-pending;
             equates = e .equates ∙ turned-equates (g .turned);
             each = e .each;
-            evaluations = omega (arith, e .evaluations, g .evaluated, triangle-more (pendingCount next) (pendingCount ks) fewer);
+            evaluations = omega (arith, e .evaluations, g .evaluated, triangle-more (pendingCount (x .known)) (pendingCount ks) fewer);
           })
-          (λ line. turned-at line (g .turned))
-          (rounds base σ fuel (suc r) next m)
-          (ih next m (omega arith) (omega arith) (omega arith) (turned-told last i (omega arith) (g .turned) t))
+          (λ y. turned-at (y .line) (g .turned))
+          (rounds base σ fuel (suc r) (x .known) (x .evaluations))
+          (ih (x .known) (x .evaluations) (omega arith) (omega arith) (omega arith) (turned-told last i (omega arith) (g .turned) t))
 
-      by : (c : Bool) → eqb (pendingCount ks) 0 ≡ c → (x : Round) → Comes (Passed r ks n) (λ line. AtLine line ks) x → Rest
-          → Good (elim c [
-            | true ↦ through ks n
-            | false ↦ elim x [
-              | stopped m line ↦ stopped m line
-              | through next m ↦ elim (eqb (pendingCount next) (pendingCount ks)) [ true ↦ stopped 17 (firstPending next) | false ↦ rounds base σ fuel (suc r) next m ]
-            ]
-          ])
-      by true e x g ih =
+      by : (c : Bool) → eqb (pendingCount ks) 0 ≡ c → Rest
+          → Good (elim c [ true ↦ value (turns ks n) | false ↦ andThen (pass base σ r [] ks n) (afterPass fuel r ks) ])
+      by true e ih =
           let z : pendingCount ks ≡ 0 = eqb-true _ _ e in
           record { none-pending = z; equates = refl; each = resolved last ks z t; evaluations = omega arith }
-      by false e (stopped m line) g ih = g
-      by false e (through next m) g ih = next-round next m (eqb (pendingCount next) (pendingCount ks)) refl (omega (arith, eqb-false (pendingCount ks) 0 e)) g ih
+      by false e ih =
+          and-then-comes (Passed r ks n) (Ended last ks n) (AtEquate ks) (pass base σ r [] ks n) (afterPass fuel r ks) (pass-turns r ks n)
+          (λ x g. next-round x (eqb (pendingCount (x .known)) (pendingCount ks)) refl (omega (arith, eqb-false (pendingCount ks) 0 e)) g ih)
 
   -- ---- the layout's own rounds
 
@@ -288,17 +296,17 @@ module _ (base : ℕ) (σ : State) where
   told-all n (e ∷ es) = ((λ f p. absurd (none-some p)), told-all n es)
 
   -- one turn more than there are equates is enough
-  pub enough : (es : List Equate) (m : ℕ)
-      → rounds base σ (suc (length es) + m) 1 (map pendingEquate es) 0 ≡ rounds base σ (suc (length es)) 1 (map pendingEquate es) 0
+  pub enough : (es : List Equate) (m : ℕ) → rounds base σ (suc (length es) + m) 1 (map pendingEquate es) 0 ≡ resolve base σ es
   enough es m =
       let p = pending-all es in
       rounds-fuel (suc (length es) + m) (suc (length es)) 1 (map pendingEquate es) 0 (omega (arith, p)) (omega (arith, p))
 
-  pub all-end : (es : List Equate) → Comes (Ended (length es) (map pendingEquate es) 0) (λ line. AtLine line (map pendingEquate es))
-      (rounds base σ (suc (length es)) 1 (map pendingEquate es) 0)
+  pub all-end : (es : List Equate)
+      → Comes (Ended (length es) (map pendingEquate es) 0) (AtEquate (map pendingEquate es)) (resolve base σ es)
   all-end es =
       let p = pending-all es in
-      rounds-end (length es) (suc (length es)) 1 (map pendingEquate es) 0 (omega (arith, p)) (omega arith) (omega (arith, p)) (told-all (length es) es)
+      rounds-end (length es) (suc (length es)) 1 (map pendingEquate es) 0
+      (omega (arith, p)) (omega arith) (omega (arith, p)) (told-all (length es) es)
 
 -- ---- tokens
 

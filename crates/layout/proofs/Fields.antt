@@ -1,5 +1,5 @@
 -- Every field of a record fits its bytes, every count its limit and what is lent, so that each buffer keeps the length that was lent.
-use Prim.Native.Nat.{ℕ, suc, _+_, _-_, _*_, _/_, _^_, min, _≤_, _<_}
+use Prim.Native.Nat.{ℕ, suc, _+_, _-_, _*_, _^_, min, _≤_, _<_}
 use mathlib.Core.Path.{_≡_, refl, sym, _∙_, ap}
 use mathlib.Core.List.{List, [], _∷_, _++_, map, List·Permᴰ, List·Permᴰ·nil, List·Permᴰ·cons, List·Permᴰ·swap, List·Permᴰ·trans, Permᴰ·refl}
 use mathlib.Core.Bool.{Bool, true, false, cond, not}
@@ -7,31 +7,40 @@ use mathlib.Core.Option.{Option, none, some}
 use native.Mathlib.Nat.{zero-add, zero-mul, suc-mul}
 use native.Mathlib.Omega.{arith}
 use lib.Dec.{ltb, eqb}
-use lib.IntN.{ℤ, pos, _+ℤ_}
-use lib.ListN.{length, replicate, length-append, length-replicate, length-map}
-use borrow.Author.Tests.{ltb-false}
-use Rattle.numbers.specs.Ints.{in64, fit64, signTimes}
+use lib.IntN.{ℤ, pos, negsuc, _+ℤ_}
+use lib.ListN.{length, length-append, length-replicate, length-map}
+use borrow.Author.Tests.{ltb-false, leb-true}
+use Rattle.numbers.specs.Results.{Result, value, refused, andThen}
+use Rattle.numbers.specs.Ints.{in64, fit64, signTimes, bits}
 use Rattle.numbers.proofs.Readings.{fit-in64}
-use Rattle.layout.specs.declared.line.Section.{Section}
-use Rattle.layout.specs.declared.line.Section.the-variants as section
-use Rattle.layout.specs.declared.line.Pseudo.{Pseudo}
-use Rattle.layout.specs.declared.line.Pseudo.the-variants.{Li, La, Push, Pop, Print, PrintStr, Read, ReadByte, Random}
-use Rattle.layout.specs.Pseudos.{itemKind}
-use Rattle.layout.specs.Directives.{le}
-use Rattle.layout.specs.Stage.{Lent, Place, Equate, ItemLine, LabelWord, State, Move, go, stop, start, lineStage, isLabel}
+use Rattle.layout.specs.declared.state.Section.{Section}
+use Rattle.layout.specs.declared.state.Section.the-variants as section
+use Rattle.layout.specs.declared.state.Place.{Place}
+use Rattle.layout.specs.declared.pseudo.Pseudo.{Pseudo}
+use Rattle.layout.specs.declared.pseudo.Pseudo.the-variants.{Li, La, Push, Pop, Print, PrintStr, Read, ReadByte, Random}
+use Rattle.layout.specs.Bytes.{le, together}
 use Rattle.layout.specs.Pieces.{lines, linePieces}
-use Rattle.layout.specs.Statements.{expressionText}
-use Rattle.layout.specs.Addresses.{LabelAt, placed, lessLabel, insert, ordered, addressAt, sectionStart, labelAddress, Filled, filled, undefined, put, fillOne, onFilled, fill}
-use Rattle.layout.specs.Expressions.{Token, plus, minus, dot, number, name, unreadable, tokens, anyUnreadable, Evaluated, value, waits, refused, Wanted, term, joint, onFit, addTerm, onName, sumFrom, evaluate}
-use Rattle.layout.specs.Rounds.{Known, pendingEquate, constant, look, isSome, turn, Round, through, stopped, rounds}
-use Rattle.layout.specs.Layouts.{EquateAt, ItemAt, Layout, Outcome, accepted, Emission, emits, refuses, emission, Emitted, emitted, halted, emitOne, emit, foundEquates, finish, afterRounds, afterFill, afterLines, highByte, afterBytes, layoutOf, labelRecord, equateRecord, itemRecord, Buffers, padded, together, buffersOf}
-use Rattle.layout.specs.Layouts as lay
-use Rattle.layout.specs.Limits.{Inside, Each, limit, LabelFits, EquateFits, ItemFits, LabelWordFits, Fits, reservedIn}
-use Rattle.layout.proofs.Each.{each-append, each-weaker, each-map, each-mapped, each-some}
-use Rattle.layout.proofs.Puts.{length-le, length-put}
-use Rattle.layout.proofs.Emissions.{IsWord, EmissionFits, emission-fits}
-use Rattle.layout.proofs.Kept.{MoveFits, stage-fits}
-use Rattle.layout.proofs.Ending.{Comes, AtLine, Resolved, Ended, triangle, pending-all, equates-all, all-end}
+use Rattle.layout.specs.Refusals.{Refusal, atLine}
+use Rattle.layout.specs.Limits.{baseLimit, textLimit, bssLimit, dataLimit, labelSize, equateSize, itemSize, Lent, roomOf}
+use Rattle.layout.specs.Statements.{exprText}
+use Rattle.layout.specs.Pseudos.{itemKind}
+use Rattle.layout.specs.State.{Equate, ItemLine, LabelWord, State, start}
+use Rattle.layout.specs.Stage.{isLabel, lineStage}
+use Rattle.layout.specs.Addresses.{LabelAt, placed, lessLabel, insert, ordered, addressAt, sectionStart, labelAddress, fillOne, fill}
+use Rattle.layout.specs.Expressions.{Token, plus, minus, dot, number, name, unreadable, tokens, anyUnreadable, Evaluated, positive, negative}
+use Rattle.layout.specs.Expressions.{Wanted, term, joint, onFit, addTerm, onName, sumFrom, evaluate}
+use Rattle.layout.specs.Rounds.{Known, pendingEquate, constant, look, isSome, turn, Turns}
+use Rattle.layout.specs.Records.{Field, fieldBytes, labelRecord, labelFields, equateRecord, equateFields, itemRecord, itemFields, tableOf}
+use Rattle.layout.specs.Layouts.{EquateAt, ItemAt, Layout, emission, Emitted, itemAt, emit, foundEquates, refuseIf, checkBytes}
+use Rattle.layout.specs.Layouts.{resolve, layout, afterLines, layoutOf, Counts, Buffers, Answer, answerOf, callOf}
+use Rattle.layout.specs.code.Places.{sectionLimit, PlaceFits}
+use Rattle.layout.specs.code.Fits.{Each, Inside, LabelFits, EquateFits, ItemFits, LabelWordFits, Fits, reservedIn}
+use Rattle.layout.proofs.Each.{_and_, each-append, each-weaker, each-map, each-mapped, each-any}
+use Rattle.layout.proofs.Gives.{Comes, comes-so, and-then-comes}
+use Rattle.layout.proofs.ByteLaws.{length-le, length-put, length-padded}
+use Rattle.layout.proofs.Emissions.{IsWord, WordsFit, PseudoRefusal, emission-fits}
+use Rattle.layout.proofs.Kept.{stage-fits}
+use Rattle.layout.proofs.Ending.{AtEquate, Resolved, Ended, triangle, pending-all, equates-all, all-end}
 
 -- ---- labels in order
 
@@ -67,8 +76,8 @@ permuted-each P (List·Permᴰ·trans p q) g = permuted-each P p (permuted-each 
 
 -- an expression's value is within 64 signed bits
 abbrev pub ValueFits : Evaluated → Type 0
-ValueFits (value z) = in64 z ≡ true
-ValueFits waits = Unit
+ValueFits (value (some z)) = in64 z ≡ true
+ValueFits (value none) = Unit
 ValueFits (refused n) = Unit
 
 on-fit : (y : ℤ) (f : ℤ → Evaluated) → ((z : ℤ) → in64 z ≡ true → ValueFits (f z)) → ValueFits (onFit (fit64 y) f)
@@ -78,7 +87,8 @@ on-fit y f g = by (fit64 y) refl
     by none e = tt
     by (some z) e = g z (fit-in64 y z e)
 
-add-term : (sum : ℤ) (joining own : Bool) (y : ℤ) (f : ℤ → Evaluated) → ((z : ℤ) → in64 z ≡ true → ValueFits (f z)) → ValueFits (addTerm sum joining own y f)
+add-term : (sum : ℤ) (joining own : Bool) (y : ℤ) (f : ℤ → Evaluated) → ((z : ℤ) → in64 z ≡ true → ValueFits (f z))
+    → ValueFits (addTerm sum joining own y f)
 add-term sum joining own y f g = on-fit (signTimes own y) _ (λ p h. on-fit (signTimes joining p) _ (λ q i. on-fit (sum +ℤ q) f g))
 
 sum-fits : (look : List ℕ → Option ℤ) (here sum : ℤ) (w : Wanted) (ts : List Token) → in64 sum ≡ true → ValueFits (sumFrom look here sum w ts)
@@ -96,8 +106,8 @@ sum-fits look here sum (term joining own) (name n ∷ ts) h = by (look n) (λ z.
     by none g = tt
     by (some v) g = add-term sum joining own v _ g
 sum-fits look here sum (term joining own) (unreadable ∷ ts) h = tt
-sum-fits look here sum joint (plus ∷ ts) h = sum-fits look here sum (term false false) ts h
-sum-fits look here sum joint (minus ∷ ts) h = sum-fits look here sum (term true false) ts h
+sum-fits look here sum joint (plus ∷ ts) h = sum-fits look here sum (term positive positive) ts h
+sum-fits look here sum joint (minus ∷ ts) h = sum-fits look here sum (term negative positive) ts h
 sum-fits look here sum joint (dot ∷ ts) h = tt
 sum-fits look here sum joint (number v ∷ ts) h = tt
 sum-fits look here sum joint (name n ∷ ts) h = tt
@@ -107,21 +117,21 @@ pub evaluate-fits : (look : List ℕ → Option ℤ) (here : ℤ) (s : List ℕ)
 unfolding evaluate
 evaluate-fits look here s = by (anyUnreadable (tokens s))
   where
-    by : (c : Bool) → ValueFits (cond c (refused 16) (sumFrom look here (pos 0) (term false false) (tokens s)))
+    by : (c : Bool) → ValueFits (cond c (refused 16) (sumFrom look here (pos 0) (term positive positive) (tokens s)))
     by true = tt
-    by false = sum-fits look here (pos 0) (term false false) (tokens s) refl
+    by false = sum-fits look here (pos 0) (term positive positive) (tokens s) refl
 
 pub turn-fits : (base : ℕ) (σ : State) (ks : List Known) (e : Equate) → ValueFits (turn base σ ks e)
 unfolding turn
 turn-fits base σ ks e = by (isLabel (e .name .bytes) (σ .labels)) (isSome (constant ks (e .name .bytes)))
   where
     v : Evaluated
-    v = evaluate (look base σ ks) (pos (addressAt base σ (e .place))) (expressionText (e .expression))
+    v = evaluate (look base σ ks) (pos (addressAt base σ (e .place))) (exprText (e .expr))
 
     by : (a b : Bool) → ValueFits (elim a [ true ↦ refused 14 | false ↦ elim b [ true ↦ refused 15 | false ↦ v ] ])
     by true b = tt
     by false true = tt
-    by false false = evaluate-fits (look base σ ks) (pos (addressAt base σ (e .place))) (expressionText (e .expression))
+    by false false = evaluate-fits (look base σ ks) (pos (addressAt base σ (e .place))) (exprText (e .expr))
 
 -- ---- records
 
@@ -159,90 +169,93 @@ kind-small (some ReadByte) = omega arith
 kind-small (some Random) = omega arith
 
 module _ (t : List ℕ) where
-  -- filling in the label words leaves the data's length, or stops at a line of the text
-  abbrev pub FilledFits : ℕ → Filled → Type 0
-  FilledFits n (filled image) = length image ≡ n
-  FilledFits n (undefined line) = line < length t
+  -- a refusal at a line of the text
+  abbrev pub InText : Refusal → Type 0
+  InText r = r .line < length t
 
-  pub fill-fits : (look : List ℕ → Option ℕ) (ws : List LabelWord) (n : ℕ) (image : List ℕ) → length image ≡ n → Each (LabelWordFits t n) ws
-      → FilledFits n (fill look ws image)
+  -- filling in the label words leaves the data's length
+  pub fill-fits : (look : List ℕ → Option ℕ) (ws : List LabelWord) (n : ℕ) (bytes : List ℕ) → length bytes ≡ n → Each (LabelWordFits t n) ws
+      → Comes (λ bs. length bs ≡ n) InText (fill look ws bytes)
   unfolding fill
-  fill-fits look [] n image e g = e
-  fill-fits look (w ∷ ws) n image e g = by (look (w .name)) (fill-fits look ws n)
+  fill-fits look [] n bytes e g = e
+  fill-fits look (w ∷ ws) n bytes e g =
+      and-then-comes (λ bs. length bs ≡ n) (λ bs. length bs ≡ n) InText (atLine (w .line) (fillOne (look (w .name)) w bytes)) (fill look ws)
+      (by (look (w .name))) (λ bs i. fill-fits look ws n bs i (g .1))
     where
-      by : (o : Option ℕ) → ((next : List ℕ) → length next ≡ n → Each (LabelWordFits t n) ws → FilledFits n (fill look ws next))
-          → FilledFits n (onFilled (fillOne o w image) (fill look ws))
-      by none more = g .0 .line
-      by (some a) more =
-          let l = length-le 4 a in
-          let room : w .at + length (le 4 a) ≤ length image = omega (arith, l, e, g .0 .place) in
-          more (put (w .at) (le 4 a) image) (length-put (w .at) (le 4 a) image room ∙ e) (g .1)
+      by : (o : Option ℕ) → Comes (λ bs. length bs ≡ n) InText (atLine (w .line) (fillOne o w bytes))
+      by none = g .0 .line
+      by (some a) = length-put (w .at) (le 4 a) bytes (omega (arith, length-le 4 a, e, g .0 .place)) ∙ e
 
   -- the items' words and records, where ws and is were there before
-  pub record Emits (xs : List ItemLine) (ws : List ℕ) (is : List ItemAt) (ws′ : List ℕ) (is′ : List ItemAt) : Type 0 where
-    pub few : length ws′ ≤ length ws + reservedIn xs
-    pub words : Each IsWord ws′
-    pub count : length is′ ≡ length is + length xs
-    pub items : Each (ItemAtFits t (length ws′)) is′
+  pub record Emits (xs : List ItemLine) (ws : List ℕ) (is : List ItemAt) (x : Emitted) : Type 0 where
+    pub few : length (x .words) ≤ length ws + reservedIn xs
+    pub words : Each IsWord (x .words)
+    pub count : length (x .items) ≡ length is + length xs
+    pub items : Each (ItemAtFits t (length (x .words))) (x .items)
 
-  abbrev pub EmittedFits : (List ℕ → List ItemAt → Type 0) → Emitted → Type 0
-  EmittedFits P (emitted ws is) = P ws is
-  EmittedFits P (halted n line) = line < length t
-
-  module _ (base : ℕ) (low : base ≤ 0xFF000000) (const : List ℕ → Option ℤ) (label : List ℕ → Option ℕ) where
-    pub emit-fits : (xs : List ItemLine) (ws : List ℕ) (is : List ItemAt) → Each (ItemFits t) xs → Each IsWord ws → Each (ItemAtFits t (length ws)) is
-        → EmittedFits (Emits xs ws is) (emit base const label xs ws is)
+  module _ (base : ℕ) (low : base ≤ baseLimit) (const : List ℕ → Option ℤ) (label : List ℕ → Option ℕ) where
+    pub emit-fits : (xs : List ItemLine) (ws : List ℕ) (is : List ItemAt) → Each (ItemFits t) xs → Each IsWord ws
+        → Each (ItemAtFits t (length ws)) is → Comes (Emits xs ws is) InText (emit base const label xs ws is)
     unfolding emit reservedIn
     emit-fits [] ws is g h i = record { few = omega arith; words = h; count = omega arith; items = i }
     emit-fits (x ∷ xs) ws is g h i =
-        by (emission const label (x .item) (x .source .bytes)) (emission-fits const label (x .item) (x .source .bytes)) (emit-fits xs)
+        and-then-comes (WordsFit const (x .item) s) (Emits (x ∷ xs) ws is) InText (atLine (x .line) (emission const label (x .item) s))
+        (λ vs. emit base const label xs (ws ++ vs) is′)
+        (line-fits (emission const label (x .item) s) (emission-fits const label (x .item) s))
+        (λ vs f. comes-so (Emits xs (ws ++ vs) is′) (Emits (x ∷ xs) ws is) InText InText (more vs f) (λ r q. q)
+        (emit base const label xs (ws ++ vs) is′) (emit-fits xs (ws ++ vs) is′ (g .1) (each-append IsWord ws vs h (f .2)) (each vs f)))
       where
-        by : (e : Emission) → EmissionFits const (x .item) (x .source .bytes) e
-            → ((ws : List ℕ) (is : List ItemAt) → Each (ItemFits t) xs → Each IsWord ws → Each (ItemAtFits t (length ws)) is
-            → EmittedFits (Emits xs ws is) (emit base const label xs ws is))
-            → EmittedFits (Emits (x ∷ xs) ws is) (emitOne base ws is x e (emit base const label xs))
-        by (refuses n) f more = g .0 .line
-        by (emits vs) f more = last (emit base const label xs (ws ++ vs) is′) (more (ws ++ vs) is′ (g .1) (each-append IsWord ws vs h (f .2)) each)
-          where
-            y : ItemAt
-            y = record { address = base + x .offset; line = x .line; kind = itemKind (x .item); first = length ws; source = x .source }
+        s : List ℕ
+        s = x .source .bytes
 
-            is′ : List ItemAt
-            is′ = is ++ y ∷ []
+        y : ItemAt
+        y = itemAt base x (length ws)
 
-            longer : length (ws ++ vs) ≡ length ws + length vs
-            longer = length-append ws vs
+        is′ : List ItemAt
+        is′ = is ++ y ∷ []
 
-            each : Each (ItemAtFits t (length (ws ++ vs))) is′
-            each =
-                each-append (ItemAtFits t (length (ws ++ vs))) is (y ∷ [])
-                (each-weaker (ItemAtFits t (length ws)) (ItemAtFits t (length (ws ++ vs)))
-                (λ j q. record { address = q .address; line = q .line; kind = q .kind; first = rw longer (omega (arith, q .first)); source = q .source }) is i) (
-                  record {
-                    address = omega (arith, low, g .0 .place);
-                    line = g .0 .line;
-                    kind = kind-small (x .item);
-                    first = rw longer (omega (arith, f .0));
-                    source = g .0 .source;
-                  },
-                  tt,
-                )
+        line-fits : (e : Result ℕ (List ℕ)) → Comes (WordsFit const (x .item) s) PseudoRefusal e
+            → Comes (WordsFit const (x .item) s) InText (atLine (x .line) e)
+        line-fits (value vs) f = f
+        line-fits (refused n) f = g .0 .line
 
-            last : (z : Emitted) → EmittedFits (Emits xs (ws ++ vs) is′) z → EmittedFits (Emits (x ∷ xs) ws is) z
-            last (emitted ws″ is″) q =
-                record {
-                  few = omega (arith, q .few, longer, f .1);
-                  words = q .words;
-                  count = omega (arith, q .count, length-append is (y ∷ []));
-                  items = q .items;
-                }
-            last (halted n line) q = q
+        each : (vs : List ℕ) → WordsFit const (x .item) s vs → Each (ItemAtFits t (length (ws ++ vs))) is′
+        each vs f =
+            let longer : length (ws ++ vs) ≡ length ws + length vs = length-append ws vs in
+            let old = each-weaker (ItemAtFits t (length ws)) (ItemAtFits t (length (ws ++ vs)))
+            (λ j q. record {
+              address = q .address;
+              line = q .line;
+              kind = q .kind;
+              first = rw longer (omega (arith, q .first));
+              source = q .source;
+            }) is i in
+            each-append (ItemAtFits t (length (ws ++ vs))) is (y ∷ []) old (
+              record {
+                address = omega (arith, low, g .0 .place);
+                line = g .0 .line;
+                kind = kind-small (x .item);
+                first = rw longer (omega (arith, f .0));
+                source = g .0 .source;
+              },
+              tt,
+            )
+
+        more : (vs : List ℕ) → WordsFit const (x .item) s vs → (z : Emitted) → Emits xs (ws ++ vs) is′ z → Emits (x ∷ xs) ws is z
+        more vs f z q =
+            record {
+              few = omega (arith, q .few, length-append ws vs, f .1);
+              words = q .words;
+              count = omega (arith, q .count, length-append is (y ∷ []));
+              items = q .items;
+            }
 
 -- every address is below 2^32
-pub place-below : (base : ℕ) (σ : State) (p : Place) → base ≤ 0xFF000000 → length (σ .image) ≤ 65536 → p .offset ≤ limit (p .section) → addressAt base σ p < 2 ^ 32
+pub place-below : (base : ℕ) (σ : State) (p : Place) → base ≤ baseLimit → length (σ .rest .own .stored .bytes) ≤ dataLimit → PlaceFits p
+    → addressAt base σ p < 2 ^ 32
 place-below base σ p low short h = by (p .section) h
   where
-    by : (s : Section) → p .offset ≤ limit s → sectionStart base σ s + p .offset < 2 ^ 32
+    by : (s : Section) → p .offset ≤ sectionLimit s → sectionStart base σ s + p .offset < 2 ^ 32
     by section.Text h = omega arith
     by section.Data h = omega arith
     by section.Bss h = omega arith
@@ -255,189 +268,290 @@ module _ (t : List ℕ) (base : ℕ) (σ : State) (n : ℕ) where
   found-length [] r = refl
   found-length (k ∷ ks) r = rw (r .0 .is) (ap suc (found-length ks (r .1)))
 
-  found-fits : (ks : List Known) → Each (λ k. EquateFits t (k .equate)) ks → Each (Resolved base σ n) ks → Each (EquateAtFits t n) (foundEquates ks)
+  found-fits : (ks : List Known) → Each (λ k. EquateFits t (k .equate)) ks → Each (Resolved base σ n) ks
+      → Each (EquateAtFits t n) (foundEquates ks)
   unfolding foundEquates
   found-fits [] g r = tt
   found-fits (k ∷ ks) g r =
       let d = r .0 .dated in
       rw (r .0 .is) (
-        record { name = g .0 .name; line = g .0 .line; value = rw (d .gave) at (turn-fits base σ (d .known) (k .equate)); from = d .from; to = d .to },
+        record {
+          name = g .0 .name;
+          line = g .0 .line;
+          value = rw (d .gave) at (turn-fits base σ (d .known) (k .equate));
+          from = d .from;
+          to = d .to;
+        },
         found-fits ks (g .1) (r .1),
       )
 
 -- ---- the whole layout
 
--- an accepted layout fits what is lent, and each of its fields its bytes: with a text of 65,536 bytes at most every place and length in it, every
--- line and every index is below 2^32
+-- an accepted layout fits what is lent, and each of its fields its bytes
 pub record LayoutFits (t : List ℕ) (k : Lent) (l : Layout) : Type 0 where
-  pub text : length t ≤ 65536
-  pub words : length (l .words) ≤ min 16384 (k .words)
+  pub text : length t ≤ textLimit
+  pub words : length (l .words) ≤ roomOf k .words
   pub eachWord : Each IsWord (l .words)
-  pub image : length (l .image) ≤ min 65536 (k .dataBytes)
-  pub bss : l .bss ≤ 1048576
-  pub memory : l .imageBase + length (l .image) + l .bss < 2 ^ 32
-  pub labels : length (l .labels) ≤ min 1024 (k .labelBytes / 16)
+  pub dataBytes : length (l .dataBytes) ≤ roomOf k .bytes
+  pub bssSize : l .bssSize ≤ bssLimit
+  pub memory : l .dataBase + length (l .dataBytes) + l .bssSize < 2 ^ 32
+  pub labels : length (l .labels) ≤ roomOf k .labels
   pub eachLabel : Each (LabelAtFits t) (l .labels)
-  pub equates : length (l .equates) ≤ min 256 (k .equateBytes / 24)
+  pub equates : length (l .equates) ≤ roomOf k .equates
   pub eachEquate : Each (EquateAtFits t (length (l .equates))) (l .equates)
-  pub items : length (l .items) ≤ min 2048 (k .itemBytes / 24)
+  pub items : length (l .items) ≤ roomOf k .items
   pub eachItem : Each (ItemAtFits t (length (l .words))) (l .items)
   pub evaluations : l .evaluations ≤ triangle (length (l .equates))
 
 -- and a refusal's line is at most the text's length, and at most 65,536
-abbrev pub OutcomeFits : List ℕ → Lent → Outcome → Type 0
-OutcomeFits t k (accepted l) = LayoutFits t k l
-OutcomeFits t k (lay.refused n line) = line ≤ min 65536 (length t)
+abbrev pub LineFits : List ℕ → Refusal → Type 0
+LineFits t r = r .line ≤ min textLimit (length t)
 
-module _ (t : List ℕ) (short : length t ≤ 65536) (base : ℕ) (low : base ≤ 0xFF000000) (k : Lent) where
-  stops : (line : ℕ) → line < length t → line ≤ min 65536 (length t)
-  stops line h = omega arith
-
-  module _ (σ : State) (f : Fits t k σ) where
-    abbrev RoundsEnd : Round → Type 0
-    RoundsEnd x = Comes (Ended base σ (length (σ .equates)) (map pendingEquate (σ .equates)) 0) (λ line. AtLine line (map pendingEquate (σ .equates))) x
-
+module _ (t : List ℕ) (short : length t ≤ textLimit) (base : ℕ) (low : base ≤ baseLimit) (k : Lent) where
+  module _ (σ : State) (f : Fits t (roomOf k) σ) where
     labels-fit : Each (LabelAtFits t) (map (placed base σ) (σ .labels))
     labels-fit =
+        let few : length (σ .rest .own .stored .bytes) ≤ dataLimit = omega (arith, f .rest .own .stored .room) in
         each-map (LabelFits t) (LabelAtFits t) (placed base σ)
-        (λ l q. record { name = q .name; address = place-below base σ (l .place) low (omega (arith, f .image .room)) (q .place); line = q .line })
+        (λ l q. record { name = q .name; address = place-below base σ (l .place) low few (q .place); line = q .line })
         (σ .labels) (f .labels .each)
 
-    finish-fits : (image : List ℕ) → length image ≡ length (σ .image) → (ks : List Known) (n : ℕ)
-        → Ended base σ (length (σ .equates)) (map pendingEquate (σ .equates)) 0 ks n
-        → (x : Emitted) → EmittedFits t (Emits t (σ .items) [] []) x → OutcomeFits t k (finish base σ image ks n x)
-    finish-fits image e ks n d (halted m line) g = stops line g
-    finish-fits image e ks n d (emitted ws is) g =
+    accepted-fits : (bytes : List ℕ) → length bytes ≡ length (σ .rest .own .stored .bytes)
+        → (x : Turns) → Ended base σ (length (σ .rest .equates)) (map pendingEquate (σ .rest .equates)) 0 x
+        → (e : Emitted) → Emits t (σ .rest .own .items .list) [] [] e → LayoutFits t k (layout base σ bytes x e)
+    accepted-fits bytes b x d e g =
         record {
           text = short;
-          words = omega (arith, g .few, f .items .sum, f .items .room);
+          words = omega (arith, g .few, f .rest .own .items .sum, f .rest .own .items .room);
           eachWord = g .words;
-          image = rw e (f .image .room);
-          bss = f .bss;
-          memory = rw e (omega (arith, low, f .image .room, f .bss));
+          dataBytes = rw b (f .rest .own .stored .room);
+          bssSize = f .rest .own .bss;
+          memory = rw b (omega (arith, low, f .rest .own .stored .room, f .rest .own .bss));
           labels = rw (permuted-length permuted, length-map (σ .labels) (placed base σ)) (f .labels .few);
           eachLabel = permuted-each (LabelAtFits t) permuted labels-fit;
-          equates = rw count (f .equates .few);
-          eachEquate = rw count (found-fits t base σ (length (σ .equates)) ks (each-mapped (EquateFits t) (λ x. x .equate) ks (rw same (f .equates .each))) (d .each));
-          items = omega (arith, g .count, f .items .few);
+          equates = rw count (f .rest .equates .few);
+          eachEquate = rw count (found-fits t base σ (length es) (x .known) each (d .each));
+          items = omega (arith, g .count, f .rest .own .items .few);
           eachItem = g .items;
-          evaluations = rw (count, ← pending-all (σ .equates)) (omega (arith, d .evaluations));
+          evaluations = rw (count, ← pending-all es) (omega (arith, d .evaluations));
         }
       where
+        es : List Equate
+        es = σ .rest .equates
+
         permuted : List·Permᴰ (ordered (map (placed base σ) (σ .labels))) (map (placed base σ) (σ .labels))
         permuted = ordered-permutes (map (placed base σ) (σ .labels))
 
-        same : map (λ x. x .equate) ks ≡ σ .equates
-        same = d .equates ∙ equates-all (σ .equates)
+        same : map (λ y. y .equate) (x .known) ≡ es
+        same = d .equates ∙ equates-all es
 
-        count : length (foundEquates ks) ≡ length (σ .equates)
-        count = found-length t base σ (length (σ .equates)) ks (d .each) ∙ sym (length-map ks (λ x. x .equate)) ∙ ap length same
+        each : Each (λ y. EquateFits t (y .equate)) (x .known)
+        each = each-mapped (EquateFits t) (λ y. y .equate) (x .known) (rw same (f .rest .equates .each))
 
-    rounds-fit : (image : List ℕ) → length image ≡ length (σ .image) → (x : Round)
-        → RoundsEnd x → OutcomeFits t k (afterRounds base σ image x)
-    rounds-fit image e (stopped m line) s =
-        let said = each-map (EquateFits t) (λ x. EquateFits t (x .equate)) pendingEquate (λ x q. q) (σ .equates) (f .equates .each) in
-        let at = each-some (λ x. EquateFits t (x .equate)) (λ x. x .equate .line ≡ line) (map pendingEquate (σ .equates)) said s in
-        stops line (omega (arith, at .1 .line, at .2))
-    rounds-fit image e (through ks n) d =
-        finish-fits image e ks n d (emit base (constant ks) (labelAddress base σ) (σ .items) [] [])
-        (emit-fits t base low (constant ks) (labelAddress base σ) (σ .items) [] [] (f .items .each) tt tt)
+        count : length (foundEquates (x .known)) ≡ length es
+        count = found-length t base σ (length es) (x .known) (d .each) ∙ sym (length-map (x .known) (λ y. y .equate)) ∙ ap length same
 
-    fill-then : (x : Filled) → FilledFits t (length (σ .image)) x → OutcomeFits t k (afterFill base σ x)
-    fill-then (undefined line) h = stops line h
-    fill-then (filled image) h =
-        rounds-fit image h (rounds base σ (suc (length (σ .equates))) 1 (map pendingEquate (σ .equates)) 0) (all-end base σ (σ .equates))
+    -- a refusal of the rounds stands at an equate's line
+    rounds-line : (r : Refusal) → AtEquate (map pendingEquate (σ .rest .equates)) r → InText t r
+    rounds-line r s =
+        let ks = map pendingEquate (σ .rest .equates) in
+        let said = each-map (EquateFits t) (λ x. EquateFits t (x .equate)) pendingEquate (λ x q. q) (σ .rest .equates) (f .rest .equates .each) in
+        let at = each-any (λ x. EquateFits t (x .equate)) (λ x. x .equate .line ≡ r .line) ks said s in
+        omega (arith, at .1 .line, at .2)
 
-  lines-then : (m : Move) → MoveFits t k m → OutcomeFits t k (afterLines base m)
-  lines-then (stop n line) h = stops line h
-  lines-then (go σ) f =
-      fill-then σ f (fill (labelAddress base σ) (σ .labelWords) (σ .image))
-      (fill-fits t (labelAddress base σ) (σ .labelWords) (length (σ .image)) (σ .image) refl (f .image .each))
+    pub after-lines-fits : Comes (LayoutFits t k) (InText t) (afterLines base σ)
+    unfolding afterLines
+    after-lines-fits =
+        let own = σ .rest .own in
+        let es = σ .rest .equates in
+        let label = labelAddress base σ in
+        let n = length (own .stored .bytes) in
+        let all : List ℕ → Turns → Emitted → Layout = layout base σ in
+        let emitting : Turns → Result Refusal Emitted = λ x. emit base (constant (x .known)) label (own .items .list) [] [] in
+        and-then-comes (λ bs. length bs ≡ n) (LayoutFits t k) (InText t) (fill label (own .stored .labelWords) (own .stored .bytes))
+        (λ bytes. andThen (resolve base σ es) (λ x. andThen (emitting x) (λ e. value (all bytes x e))))
+        (fill-fits t label (own .stored .labelWords) n (own .stored .bytes) refl (f .rest .own .stored .each)) (λ bytes b.
+        and-then-comes (Ended base σ (length es) (map pendingEquate es) 0) (LayoutFits t k) (InText t) (resolve base σ es)
+        (λ x. andThen (emitting x) (λ e. value (all bytes x e)))
+        (comes-so (Ended base σ (length es) (map pendingEquate es) 0) (Ended base σ (length es) (map pendingEquate es) 0)
+        (AtEquate (map pendingEquate es)) (InText t) (λ x d. d) rounds-line (resolve base σ es) (all-end base σ es)) (λ x d.
+        and-then-comes (Emits t (own .items .list) [] []) (LayoutFits t k) (InText t) (emitting x) (λ e. value (all bytes x e))
+        (emit-fits t base low (constant (x .known)) label (own .items .list) [] [] (f .rest .own .items .each) tt tt)
+        (accepted-fits bytes b x d)))
 
 -- a byte above 127 stands in a line of the text
-abbrev HighFits : ℕ → Option ℕ → Type 0
-HighFits n none = Unit
-HighFits n (some line) = line < n
-
-high-fits : (line : ℕ) (bs : List ℕ) → HighFits (line + length bs) (highByte line bs)
-unfolding highByte
-high-fits line [] = tt
-high-fits line (b ∷ bs) = by (ltb 127 b) (eqb b 10) (λ l. high-fits l bs)
+check-bytes : (line : ℕ) (bs : List ℕ) → Comes (λ _. Unit) (λ r. r .line < line + length bs) (checkBytes line bs)
+unfolding checkBytes
+check-bytes line [] = tt
+check-bytes line (b ∷ bs) = by (ltb 127 b) (eqb b 10) (λ l. check-bytes l bs)
   where
-    later : (l : ℕ) → l ≤ suc line → (o : Option ℕ) → HighFits (l + length bs) o → HighFits (line + suc (length bs)) o
-    later l h none g = tt
-    later l h (some x) g = omega arith
+    Below : ℕ → Refusal → Type 0
+    Below n r = r .line < n
 
-    by : (c d : Bool) → ((l : ℕ) → HighFits (l + length bs) (highByte l bs))
-        → HighFits (line + suc (length bs)) (elim c [ true ↦ some line | false ↦ highByte (cond d (suc line) line) bs ])
+    by : (c d : Bool) → ((l : ℕ) → Comes (λ _. Unit) (Below (l + length bs)) (checkBytes l bs))
+        → Comes {A = Unit} (λ _. Unit) (Below (line + suc (length bs)))
+        (elim c [ true ↦ refused (record { number = 1; line = line }) | false ↦ checkBytes (cond d (suc line) line) bs ])
     by true d more = omega arith
-    by false true more = later (suc line) (omega arith) (highByte (suc line) bs) (more (suc line))
-    by false false more = later line (omega arith) (highByte line bs) (more line)
+    by false d more =
+        let l = cond d (suc line) line in
+        comes-so (λ _. Unit) (λ _. Unit) (Below (l + length bs)) (Below (line + suc (length bs))) (λ a u. u) (λ r q. omega (arith, q, next d))
+        (checkBytes l bs) (more l)
+      where
+        next : (d : Bool) → cond d (suc line) line ≤ suc line
+        next true = omega arith
+        next false = omega arith
+
+refuse-if : (Q : Refusal → Type 0) (c : Bool) (n line : ℕ) → Q (record { number = n; line = line }) → Comes (λ _. c ≡ false) Q (refuseIf c n line)
+refuse-if Q true n line q = q
+refuse-if Q false n line q = refl
 
 -- every layout does
-pub layout-fits : (t : List ℕ) (base : ℕ) (k : Lent) → OutcomeFits t k (layoutOf t base k)
+pub layout-fits : (t : List ℕ) (base : ℕ) (k : Lent) → Comes (LayoutFits t k) (LineFits t) (layoutOf t base k)
 unfolding layoutOf
-layout-fits t base k = by (ltb 0xFF000000 base) (ltb 65536 (length t)) refl refl
+layout-fits t base k =
+    and-then-comes (λ _. ltb baseLimit base ≡ false) (LayoutFits t k) (LineFits t) (refuseIf (ltb baseLimit base) 40 0)
+    (λ _. andThen (refuseIf (ltb textLimit (length t)) 41 0) (λ _. reading))
+    (refuse-if (LineFits t) (ltb baseLimit base) 40 0 (omega arith)) (λ _ low.
+    and-then-comes (λ _. ltb textLimit (length t) ≡ false) (LayoutFits t k) (LineFits t) (refuseIf (ltb textLimit (length t)) 41 0) (λ _. reading)
+    (refuse-if (LineFits t) (ltb textLimit (length t)) 41 0 (omega arith)) (λ _ short.
+    comes-so (LayoutFits t k) (LayoutFits t k) (InText t) (LineFits t) (λ l q. q)
+    (λ r q. omega (arith, q, ltb-false textLimit (length t) short)) reading
+    (and-then-comes (λ _. Unit) (LayoutFits t k) (InText t) (checkBytes 0 t) (λ _. staged) (rw (zero-add (length t)) at (check-bytes 0 t)) (λ _ u.
+    and-then-comes (Fits t (roomOf k)) (LayoutFits t k) (InText t) (lineStage (roomOf k) 0 (linePieces 0 (lines t)) start) (afterLines base)
+    (stage-fits t k) (λ σ f. after-lines-fits t (ltb-false textLimit (length t) short) base (ltb-false baseLimit base low) k σ f)))))
   where
-    bytes : length t ≤ 65536 → base ≤ 0xFF000000 → (o : Option ℕ) → HighFits (length t) o → OutcomeFits t k (afterBytes t base k o)
-    bytes short low (some line) h = omega arith
-    bytes short low none h = lines-then t short base low k (lineStage k 0 (linePieces 0 (lines t)) start) (stage-fits t k)
+    staged : Result Refusal Layout
+    staged = andThen (lineStage (roomOf k) 0 (linePieces 0 (lines t)) start) (afterLines base)
 
-    by : (c d : Bool) → ltb 0xFF000000 base ≡ c → ltb 65536 (length t) ≡ d
-        → OutcomeFits t k (elim c [ true ↦ lay.refused 40 0 | false ↦ elim d [ true ↦ lay.refused 41 0 | false ↦ afterBytes t base k (highByte 0 t) ] ])
-    by true d p q = omega arith
-    by false true p q = omega arith
-    by false false p q =
-        bytes (ltb-false _ _ q) (ltb-false _ _ p) (highByte 0 t) (rw (zero-add (length t)) at (high-fits 0 t))
+    reading : Result Refusal Layout
+    reading = andThen (checkBytes 0 t) (λ _. staged)
 
--- ---- the buffers
+-- ---- the records' fields
 
+-- a field's number fits its bytes
+abbrev pub FieldsFit : List Field → Type 0
+FieldsFit fs = Each (λ f. f .number < 256 ^ f .width) fs
+
+-- a value of 64 signed bits fits eight bytes
+bits-below : (z : ℤ) → in64 z ≡ true → bits 64 z < 256 ^ 8
+bits-below (pos n) e = let h : n ≤ 2 ^ 63 - 1 = leb-true n _ e in omega arith
+bits-below (negsuc n) e = omega arith
+
+abbrev pub labelRow : LabelAt → List Field
+labelRow x = labelFields (labelRecord (x .name) (x .address) (x .line))
+
+abbrev pub equateRow : EquateAt → List Field
+equateRow x = equateFields (equateRecord (x .name) (x .line) (x .value) (x .round))
+
+abbrev pub itemRow : ItemAt → List Field
+itemRow x = itemFields (itemRecord (x .address) (x .line) (x .kind) (x .first) (x .source))
+
+-- of every record
+pub record RecordsFit (l : Layout) : Type 0 where
+  pub labels : Each (λ x. FieldsFit (labelRow x)) (l .labels)
+  pub equates : Each (λ x. FieldsFit (equateRow x)) (l .equates)
+  pub items : Each (λ x. FieldsFit (itemRow x)) (l .items)
+
+pub records-fit : (t : List ℕ) (k : Lent) (l : Layout) → LayoutFits t k l → RecordsFit l
+records-fit t k l f =
+    record {
+      labels = each-weaker (LabelAtFits t) _ (λ x g.
+          omega (arith, f .text, g .name .within) and omega (arith, f .text, g .name .within) and omega (arith, g .address)
+          and omega (arith, f .text, g .line) and tt) (l .labels) (f .eachLabel);
+      equates = each-weaker (EquateAtFits t (length (l .equates))) _ (λ x g.
+          omega (arith, f .text, g .name .within) and omega (arith, f .text, g .name .within) and omega (arith, f .text, g .line)
+          and bits-below (x .value) (g .value) and omega (arith, f .equates, g .to) and tt) (l .equates) (f .eachEquate);
+      items = each-weaker (ItemAtFits t (length (l .words))) _ (λ x g.
+          omega (arith, g .address) and omega (arith, f .text, g .line) and omega (arith, g .kind) and omega (arith, f .words, g .first)
+          and omega (arith, f .text, g .source .within) and omega (arith, f .text, g .source .within) and tt) (l .items) (f .eachItem);
+    }
+
+-- ---- the whole answer
+
+-- every count within its room, and what is in memory below 2^32
+pub record CountsFit (k : Lent) (c : Counts) : Type 0 where
+  pub words : c .words ≤ roomOf k .words
+  pub dataBytes : c .dataBytes ≤ roomOf k .bytes
+  pub bssSize : c .bssSize ≤ bssLimit
+  pub memory : c .dataBase + c .dataBytes + c .bssSize < 2 ^ 32
+  pub labels : c .labels ≤ roomOf k .labels
+  pub equates : c .equates ≤ roomOf k .equates
+  pub items : c .items ≤ roomOf k .items
+  pub evaluations : c .evaluations ≤ triangle (c .equates)
+
+-- every buffer as long as it was lent
 pub record BuffersFit (k : Lent) (b : Buffers) : Type 0 where
   pub words : length (b .words) ≡ k .words
-  pub image : length (b .image) ≡ k .dataBytes
+  pub dataBytes : length (b .dataBytes) ≡ k .dataBytes
   pub labels : length (b .labels) ≡ k .labelBytes
   pub equates : length (b .equates) ≡ k .equateBytes
   pub items : length (b .items) ≡ k .itemBytes
 
-padded-length : (n : ℕ) (xs : List ℕ) → length xs ≤ n → length (padded n xs) ≡ n
-padded-length n xs h = length-append xs (replicate (n - length xs) 0) ∙ omega (arith, length-replicate {A = ℕ} (n - length xs) 0)
+pub record AnswerFits (t : List ℕ) (k : Lent) (a : Answer) : Type 0 where
+  pub line : a .line ≤ min textLimit (length t)
+  pub counts : CountsFit k (a .counts)
+  pub buffers : BuffersFit k (a .buffers)
 
-together-length : {A : Type 0} (f : A → List ℕ) (n : ℕ) → ((x : A) → length (f x) ≡ n) → (xs : List A) → length (together (map f xs)) ≡ length xs * n
+-- records of one size
+table-length : {A : Type 0} (size n : ℕ) (f : A → List Field) → ((x : A) → length (fieldBytes (f x)) ≡ n) → (xs : List A) → length xs * n ≤ size
+    → length (tableOf size f xs) ≡ size
 unfolding together
-together-length f n h [] = sym (zero-mul n)
-together-length f n h (x ∷ xs) =
-    rw (length-append (f x) (together (map f xs)), h x, together-length f n h xs, suc-mul (length xs) n) (omega arith)
+table-length {A} size n f h xs g = length-padded size (together (map (λ x. fieldBytes (f x)) xs)) (omega (arith, whole xs))
+  where
+    whole : (xs : List A) → length (together (map (λ x. fieldBytes (f x)) xs)) ≡ length xs * n
+    whole [] = sym (zero-mul n)
+    whole (x ∷ xs) =
+        rw (length-append (fieldBytes (f x)) (together (map (λ x. fieldBytes (f x)) xs)), h x, whole xs, suc-mul (length xs) n) (omega arith)
 
-label-size : (l : LabelAt) → length (labelRecord l) ≡ 16
-unfolding le
-label-size l = refl
-
-equate-size : (e : EquateAt) → length (equateRecord e) ≡ 24
-unfolding le
-equate-size e = refl
-
-item-size : (i : ItemAt) → length (itemRecord i) ≡ 24
-unfolding le
-item-size i = refl
+-- of every call
+pub answer-fits : (t : List ℕ) (base : ℕ) (k : Lent) → AnswerFits t k (callOf t base k)
+unfolding le fieldBytes
+answer-fits t base k = by (layoutOf t base k) (layout-fits t base k)
+  where
+    by : (o : Result Refusal Layout) → Comes (LayoutFits t k) (LineFits t) o → AnswerFits t k (answerOf k o)
+    by (value l) f =
+        record {
+          line = omega arith;
+          counts = record {
+            words = f .words;
+            dataBytes = f .dataBytes;
+            bssSize = f .bssSize;
+            memory = f .memory;
+            labels = f .labels;
+            equates = f .equates;
+            items = f .items;
+            evaluations = f .evaluations;
+          };
+          buffers = record {
+            words = length-padded (k .words) (l .words) (omega (arith, f .words));
+            dataBytes = length-padded (k .dataBytes) (l .dataBytes) (omega (arith, f .dataBytes));
+            labels = table-length (k .labelBytes) labelSize labelRow (λ x. refl) (l .labels) (omega (arith, f .labels));
+            equates = table-length (k .equateBytes) equateSize equateRow (λ x. refl) (l .equates) (omega (arith, f .equates));
+            items = table-length (k .itemBytes) itemSize itemRow (λ x. refl) (l .items) (omega (arith, f .items));
+          };
+        }
+    by (refused r) f =
+        record {
+          line = f;
+          counts = record {
+            words = omega arith;
+            dataBytes = omega arith;
+            bssSize = omega arith;
+            memory = omega arith;
+            labels = omega arith;
+            equates = omega arith;
+            items = omega arith;
+            evaluations = omega arith;
+          };
+          buffers = record {
+            words = length-replicate (k .words) 0;
+            dataBytes = length-replicate (k .dataBytes) 0;
+            labels = length-replicate (k .labelBytes) 0;
+            equates = length-replicate (k .equateBytes) 0;
+            items = length-replicate (k .itemBytes) 0;
+          };
+        }
 
 -- each lent buffer keeps its length: what is written never goes beyond it
-pub buffers-fit : (t : List ℕ) (base : ℕ) (k : Lent) → BuffersFit k (buffersOf k (layoutOf t base k))
-buffers-fit t base k = by (layoutOf t base k) (layout-fits t base k)
-  where
-    by : (o : Outcome) → OutcomeFits t k o → BuffersFit k (buffersOf k o)
-    by (accepted l) f =
-        record {
-          words = padded-length (k .words) (l .words) (omega (arith, f .words));
-          image = padded-length (k .dataBytes) (l .image) (omega (arith, f .image));
-          labels = padded-length (k .labelBytes) (together (map labelRecord (l .labels))) (omega (arith, together-length labelRecord 16 label-size (l .labels), f .labels));
-          equates = padded-length (k .equateBytes) (together (map equateRecord (l .equates))) (omega (arith, together-length equateRecord 24 equate-size (l .equates), f .equates));
-          items = padded-length (k .itemBytes) (together (map itemRecord (l .items))) (omega (arith, together-length itemRecord 24 item-size (l .items), f .items));
-        }
-    by (lay.refused n line) f =
-        record {
-          words = length-replicate (k .words) 0;
-          image = length-replicate (k .dataBytes) 0;
-          labels = length-replicate (k .labelBytes) 0;
-          equates = length-replicate (k .equateBytes) 0;
-          items = length-replicate (k .itemBytes) 0;
-        }
+pub buffers-fit : (t : List ℕ) (base : ℕ) (k : Lent) → BuffersFit k (callOf t base k .buffers)
+buffers-fit t base k = answer-fits t base k .buffers

@@ -10,14 +10,16 @@ use lib.ListN.{length, take, drop, length-append, length-drop}
 use lib.Seq.{length-take-le, drop-drop, drop-append-add, drop-append-seam}
 use borrow.Author.Tests.{ltb-true}
 use Rattle.numbers.specs.declared.text.Span.{Span}
-use Rattle.numbers.specs.Text.{leadingSpaces, trimmed, trimSpan, spanned, indexOf, before, uncommented}
+use Rattle.numbers.specs.Text.{leadingSpaces, trimmed, indexOf, before, uncommented}
+use Rattle.numbers.specs.code.Spans.{trimSpan, spanned}
 use Rattle.numbers.proofs.Trims.{trim-span-text, trim-span-within, span-front, tail}
 use Rattle.numbers.proofs.Places.{index-within}
 use Rattle.layout.specs.Pieces.{Piece, piece, trimPiece, fromByte, holds, pieceBefore, pieceAfter, statementOf, consLine, lines, linePieces}
-use Rattle.layout.specs.Limits.{Each, Inside}
+use Rattle.layout.specs.code.Fits.{Each, Inside}
 
 -- n bytes of a piece, from its ath on, are a piece of the text
-pub part-inside : (t : List ℕ) (p : Piece) (a n : ℕ) → Inside t p → a + n ≤ length (p .bytes) → Inside t (piece (p .at + a) (take n (drop a (p .bytes))))
+pub part-inside : (t : List ℕ) (p : Piece) (a n : ℕ) → Inside t p → a + n ≤ length (p .bytes)
+    → Inside t (piece (p .at + a) (take n (drop a (p .bytes))))
 unfolding spanned
 part-inside t p a n g h =
     let s = p .bytes in
@@ -85,10 +87,12 @@ lines-after u (b ∷ bs) = go (eqb b 10) (lines bs) (later (lines-after (u ++ (b
     t : List ℕ
     t = u ++ (b ∷ bs)
 
-    later : Each (Inside ((u ++ (b ∷ [])) ++ bs)) (linePieces (length (u ++ (b ∷ []))) (lines bs)) → Each (Inside t) (linePieces (suc (length u)) (lines bs))
+    later : Each (Inside ((u ++ (b ∷ [])) ++ bs)) (linePieces (length (u ++ (b ∷ []))) (lines bs))
+        → Each (Inside t) (linePieces (suc (length u)) (lines bs))
     later h =
         let more : length (u ++ (b ∷ [])) ≡ suc (length u) = length-append u (b ∷ []) ∙ add-one (length u) in
-        same-place t (lines bs) _ _ more (transport (ap (λ (v : List ℕ). Each (Inside v) (linePieces (length (u ++ (b ∷ []))) (lines bs))) (append-assoc u (b ∷ []) bs)) h)
+        let whole : List ℕ → Type 0 = λ v. Each (Inside v) (linePieces (length (u ++ (b ∷ []))) (lines bs)) in
+        same-place t (lines bs) _ _ more (transport (ap whole (append-assoc u (b ∷ []) bs)) h)
 
     go : (c : Bool) (ls : List (List ℕ)) → Each (Inside t) (linePieces (suc (length u)) ls)
         → Each (Inside t) (linePieces (length u) (cond c ([] ∷ ls) (consLine b ls)))

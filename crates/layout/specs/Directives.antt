@@ -1,35 +1,101 @@
--- The data and bss sections' own rules: what a directive stores, operand by operand. Document 01, "Lines to places".
-use Prim.Native.Nat.{ℕ, zero, suc, _+_, _-_, _/_, _%_}
+-- Directives: one table of their spellings, and what their operands do in the data and the bss. Document 01, "Lines to places".
+use Prim.Native.Nat.{ℕ, _+_, _-_}
 use mathlib.Core.List.{List, [], _∷_, _++_, map}
 use mathlib.Core.Bool.{Bool, true, false, cond, _&&_, _||_}
 use mathlib.Core.Option.{Option, none, some}
 use lib.Bits.{bitAnd}
 use lib.Dec.{eqb}
-use lib.ListN.{drop}
+use lib.ListN.{replicate}
 use lib.IntN.{ℤ, pos, negsuc}
-use Rattle.numbers.specs.declared.text.Span.{Span}
-use Rattle.numbers.specs.Text.{text, byte, startsWith, spanned}
+use Rattle.numbers.specs.Results.{Result, value, refused}
+use Rattle.numbers.specs.Text.{text, byte, startsWith}
 use Rattle.numbers.specs.Ints.{isByte, isHalf, bits}
 use Rattle.numbers.specs.Numbers.{immOf, imm64Of}
-use Rattle.numbers.specs.Literals.{strLitOf}
+use Rattle.numbers.specs.Literals.{stringOf}
 use Rattle.numbers.specs.Operands.{operands}
 use Rattle.layout.specs.declared.directives.Width.{Width}
 use Rattle.layout.specs.declared.directives.Width.the-variants.{Byte, Half, Word, Dword}
-use Rattle.layout.specs.Statements.{startsWithAny}
-use Rattle.layout.specs.Expressions.{isLetter, isDigit}
+use Rattle.layout.specs.declared.directives.Reserve.{Reserve}
+use Rattle.layout.specs.declared.directives.Reserve.the-variants.{Space, Align}
+use Rattle.layout.specs.declared.directives.Store.{Store}
+use Rattle.layout.specs.declared.directives.Store.the-variants.{Numbers, Text, Float}
+use Rattle.layout.specs.declared.directives.Directive.{Directive}
+use Rattle.layout.specs.declared.directives.Directive.the-variants as directive
+use Rattle.layout.specs.declared.directives.Reservation.{Reservation}
+use Rattle.layout.specs.declared.directives.Reservation.the-variants.{Zeros, Aligns}
+use Rattle.layout.specs.Bytes.{le, isDigit, isLetter}
 
--- what an operand does: stores bytes, gives zeros, moves the place by .align's rule (`aligned`; not always a multiple), stores a label's address, or is refused
+-- ---- the table
+
+-- a spelling, what it is, and whether the data section has it
+pub record Row : Type 0 where
+  pub name : List ℕ
+  pub directive : Directive
+  pub inData : Bool
+
+abbrev row : List ℕ → Directive → Bool → Row
+row n d b = record { name = n; directive = d; inData = b }
+
+-- `.globl`; "Ignored"; `.equ`; then what data and bss have ("in bss also `.skip`") and what data alone have: "12 stored data in bss".
+-- No name begins with another, so their order says nothing
+unfoldable pub directives : List Row
+directives =
+    row (text ".globl") directive.Symbol true ∷
+    row (text ".global") directive.Symbol true ∷
+    row (text ".type") directive.Ignored true ∷
+    row (text ".size") directive.Ignored true ∷
+    row (text ".file") directive.Ignored true ∷
+    row (text ".ident") directive.Ignored true ∷
+    row (text ".option") directive.Ignored true ∷
+    row (text ".attribute") directive.Ignored true ∷
+    row (text ".cfi_") directive.Ignored true ∷
+    row (text ".equ") directive.Equate true ∷
+    row (text ".set") directive.Equate true ∷
+    row (text ".align") (directive.Reserves Align) true ∷
+    row (text ".space") (directive.Reserves Space) true ∷
+    row (text ".zero") (directive.Reserves Space) true ∷
+    row (text ".skip") (directive.Reserves Space) false ∷
+    row (text ".byte") (directive.Stores (Numbers Byte)) true ∷
+    row (text ".half") (directive.Stores (Numbers Half)) true ∷
+    row (text ".word") (directive.Stores (Numbers Word)) true ∷
+    row (text ".dword") (directive.Stores (Numbers Dword)) true ∷
+    row (text ".float") (directive.Stores Float) true ∷
+    row (text ".asciz") (directive.Stores (Text 1)) true ∷
+    row (text ".string") (directive.Stores (Text 1)) true ∷
+    row (text ".ascii") (directive.Stores (Text 0)) true ∷ []
+
+-- "Directives match by prefix: `.words` is `.word s`"
+unfoldable pub rowIn : List Row → List ℕ → Option Row
+rowIn [] s = none
+rowIn (r ∷ rs) s = cond (startsWith (r .name) s) (some r) (rowIn rs s)
+
+-- ---- zeros and alignments, in data and bss
+
+-- "`.align n` keeps place p if p AND (n-1) is 0, else gives (p+n-1) AND NOT (n-1)": what it shares with n-1 is taken away; an n is 1 at
+-- least
+unfoldable pub aligned : ℕ → ℕ → ℕ
+aligned n p = elim (eqb (bitAnd p (n - 1)) 0) [ true ↦ p | false ↦ p + n - 1 - bitAnd (p + n - 1) (n - 1) ]
+
+-- the place after so many zeros, or by .align's rule
+abbrev pub placeAfter : ℕ → Reservation → ℕ
+placeAfter p (Zeros n) = p + n
+placeAfter p (Aligns n) = aligned n p
+
+-- "`.space` and `.zero` (in bss also `.skip`) give zeros"; 6 unreadable, 7 "alignment below 1, size below 0"
+abbrev pub reservation : Reserve → Option ℤ → Result ℕ Reservation
+reservation x none = refused 6
+reservation Space (some (pos n)) = value (Zeros n)
+reservation Space (some (negsuc n)) = refused 7
+reservation Align (some (pos n)) = cond (eqb n 0) (refused 7) (value (Aligns n))
+reservation Align (some (negsuc n)) = refused 7
+
+-- ---- what is stored
+
+-- what an operand does to the data: bytes, zeros, or a label's address, filled in later
 pub data Write : Type 0 where
-  stores : List ℕ → Write
-  zeros : ℕ → Write
-  aligns : ℕ → Write
+  bytes : List ℕ → Write
+  gap : Reservation → Write
   addressOf : List ℕ → Write
-  wrong : ℕ → Write
-
--- "Bytes are little-endian": the w low bytes of v
-unfoldable pub le : ℕ → ℕ → List ℕ
-le zero v = []
-le (suc w) v = v % 256 ∷ le w (v / 256)
 
 -- a `.word` operand that is no number "must be a name (a letter, `_` or `.`, then these or digits)"; else 8
 abbrev pub isLabelStart : ℕ → Bool
@@ -64,70 +130,27 @@ rangeAt Word z = true
 rangeAt Dword z = true
 
 -- an operand that is no number: "6, for `.word` 8", or a name there
-abbrev pub unread : Width → List ℕ → Write
-unread Byte s = wrong 6
-unread Half s = wrong 6
-unread Word s = cond (isLabelName s) (addressOf s) (wrong 8)
-unread Dword s = wrong 6
+abbrev pub unread : Width → List ℕ → Result ℕ Write
+unread Byte s = refused 6
+unread Half s = refused 6
+unread Word s = cond (isLabelName s) (value (addressOf s)) (refused 8)
+unread Dword s = refused 6
 
-abbrev pub numberWrite : Width → Option ℤ → List ℕ → Write
-numberWrite w none s = unread w s
-numberWrite w (some z) s = cond (rangeAt w z) (stores (le (widthBytes w) (bits 64 z))) (wrong 7)
+abbrev pub numberOrName : Width → Option ℤ → List ℕ → Result ℕ Write
+numberOrName w none s = unread w s
+numberOrName w (some z) s = cond (rangeAt w z) (value (bytes (le (widthBytes w) (bits 64 z)))) (refused 7)
 
 -- one definition over the width for byte, half, word and dword
-abbrev pub numbersOf : Width → List ℕ → List Write
-numbersOf w s = map (λ op. numberWrite w (readAt w op) op) (operands s)
-
--- "`.space` and `.zero` (in bss also `.skip`) give zeros"; 7 "size below 0"
-abbrev pub sizeWrite : Option ℤ → Write
-sizeWrite none = wrong 6
-sizeWrite (some (pos n)) = zeros n
-sizeWrite (some (negsuc n)) = wrong 7
-
--- 7 "alignment below 1"
-abbrev pub alignWrite : Option ℤ → Write
-alignWrite none = wrong 6
-alignWrite (some (pos n)) = cond (eqb n 0) (wrong 7) (aligns n)
-alignWrite (some (negsuc n)) = wrong 7
+abbrev pub operandWrite : Width → List ℕ → Result ℕ Write
+operandWrite w s = numberOrName w (readAt w s) s
 
 -- "what stands between is stored unchanged, and `.asciz` and `.string` add a 0"; else 9
-abbrev pub stringWrite : List ℕ → Option Span → List ℕ → Write
-stringWrite s none end = wrong 9
-stringWrite s (some p) end = stores (spanned s p ++ end)
+abbrev pub stringWrite : ℕ → Option (List ℕ) → Result ℕ Write
+stringWrite zeros none = refused 9
+stringWrite zeros (some s) = value (bytes (s ++ replicate zeros 0))
 
--- strings and sizes: "Directives match by prefix", in this order; 10 for another
-unfoldable pub stringOrSpace : List ℕ → Write
-stringOrSpace s =
-    cond (startsWith (text ".asciz") s) (stringWrite (drop 6 s) (strLitOf (drop 6 s)) (0 ∷ []))
-    (cond (startsWith (text ".string") s) (stringWrite (drop 7 s) (strLitOf (drop 7 s)) (0 ∷ []))
-    (cond (startsWith (text ".ascii") s) (stringWrite (drop 6 s) (strLitOf (drop 6 s)) [])
-    (cond (startsWith (text ".space") s) (sizeWrite (immOf (drop 6 s)))
-    (cond (startsWith (text ".zero") s) (sizeWrite (immOf (drop 5 s)))
-    (wrong 10)))))
-
--- what a data directive does, operand by operand; 21 for `.float`
-unfoldable pub dataWrites : List ℕ → List Write
-dataWrites s =
-    cond (startsWith (text ".align") s) (alignWrite (immOf (drop 6 s)) ∷ [])
-    (cond (startsWith (text ".byte") s) (numbersOf Byte (drop 5 s))
-    (cond (startsWith (text ".half") s) (numbersOf Half (drop 5 s))
-    (cond (startsWith (text ".word") s) (numbersOf Word (drop 5 s))
-    (cond (startsWith (text ".dword") s) (numbersOf Dword (drop 6 s))
-    (cond (startsWith (text ".float") s) (wrong 21 ∷ [])
-    (stringOrSpace s ∷ []))))))
-
--- "12 stored data in bss", 11 for another
-abbrev pub storedDirectives : List (List ℕ)
-storedDirectives = text ".byte" ∷ text ".half" ∷ text ".word" ∷ text ".dword" ∷ text ".float" ∷ text ".ascii" ∷ text ".asciz" ∷ text ".string" ∷ []
-
-unfoldable pub bssWrite : List ℕ → Write
-bssWrite s =
-    cond (startsWith (text ".space") s) (sizeWrite (immOf (drop 6 s)))
-    (cond (startsWith (text ".zero") s) (sizeWrite (immOf (drop 5 s)))
-    (cond (startsWith (text ".skip") s) (sizeWrite (immOf (drop 5 s)))
-    (cond (startsWith (text ".align") s) (alignWrite (immOf (drop 6 s)))
-    (cond (startsWithAny storedDirectives s) (wrong 12) (wrong 11)))))
-
--- "`.align n` keeps place p if p AND (n-1) is 0, else gives (p+n-1) AND NOT (n-1)"
-unfoldable pub aligned : ℕ → ℕ → ℕ
-aligned n p = elim (eqb (bitAnd p (n - 1)) 0) [ true ↦ p | false ↦ p + n - 1 - bitAnd (p + n - 1) (n - 1) ]
+-- what a directive that stores does, operand by operand; 21 for `.float`
+abbrev pub storeWrites : Store → List ℕ → List (Result ℕ Write)
+storeWrites (Numbers w) s = map (operandWrite w) (operands s)
+storeWrites (Text zeros) s = stringWrite zeros (stringOf s) ∷ []
+storeWrites Float s = refused 21 ∷ []

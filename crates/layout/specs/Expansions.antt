@@ -1,11 +1,12 @@
--- The nine pseudo-instructions as lists of instructions. Document 01's module pseudo.rs, refusals 18 to 20, "count and register before label or
--- number".
+-- The nine pseudo-instructions as lists of instructions. Document 01's module pseudo.rs, refusals 18 to 20,
+-- "count and register before label or number".
 use Prim.Native.Nat.{ℕ}
 use mathlib.Core.List.{List, [], _∷_, _++_}
 use mathlib.Core.Bool.{cond}
 use mathlib.Core.Option.{Option, none, some}
 use lib.IntN.{ℤ, pos, negℤ}
 use Rattle.numbers.specs.declared.registers.Register.{Register}
+use Rattle.numbers.specs.Results.{Result, value, refused}
 use Rattle.numbers.specs.Text.{text, startsWith}
 use Rattle.numbers.specs.Ints.{isSigned12, isSigned32, bits}
 use Rattle.numbers.specs.Numbers.{immOf}
@@ -14,13 +15,12 @@ use Rattle.encoder.specs.declared.instruction.Instruction.{Instruction}
 use Rattle.encoder.specs.declared.instruction.Instruction.the-variants.{Addi, Lbu, Lw, Sw, Beq, Jal, Sub, Ecall}
 use Rattle.encoder.specs.Table.{x0}
 use Rattle.encoder.specs.Split.{loadPair}
-use Rattle.layout.specs.declared.line.Pseudo.{Pseudo}
-use Rattle.layout.specs.declared.line.Pseudo.the-variants.{Li, La, Push, Pop, Print, PrintStr, Read, ReadByte, Random}
+use Rattle.layout.specs.declared.pseudo.Pseudo.{Pseudo}
+use Rattle.layout.specs.declared.pseudo.Pseudo.the-variants.{Li, La, Push, Pop, Print, PrintStr, Read, ReadByte, Random}
 
--- the instructions, or a refusal
-pub data Expanded : Type 0 where
-  instructions : List Instruction → Expanded
-  refusedBy : ℕ → Expanded
+-- the instructions, or a refusal's number
+abbrev pub Expanded : Type 0
+Expanded = Result ℕ (List Instruction)
 
 abbrev reg : ℕ → Register
 reg n = record { 0 = n }
@@ -46,64 +46,64 @@ a7 = reg 17
 
 -- "18 pseudo operand count, bad register"
 abbrev pub onRegister : Option ℕ → (Register → Expanded) → Expanded
-onRegister none f = refusedBy 18
+onRegister none f = refused 18
 onRegister (some n) f = f (reg n)
 
 abbrev pub oneOperand : List (List ℕ) → (List ℕ → Expanded) → Expanded
-oneOperand [] f = refusedBy 18
+oneOperand [] f = refused 18
 oneOperand (a ∷ []) f = f a
-oneOperand (a ∷ b ∷ bs) f = refusedBy 18
+oneOperand (a ∷ b ∷ bs) f = refused 18
 
 abbrev pub twoOperands : List (List ℕ) → (List ℕ → List ℕ → Expanded) → Expanded
-twoOperands [] f = refusedBy 18
-twoOperands (a ∷ []) f = refusedBy 18
+twoOperands [] f = refused 18
+twoOperands (a ∷ []) f = refused 18
 twoOperands (a ∷ b ∷ []) f = f a b
-twoOperands (a ∷ b ∷ c ∷ cs) f = refusedBy 18
+twoOperands (a ∷ b ∷ c ∷ cs) f = refused 18
 
 -- "20 label not found"
 abbrev pub onLabel : Option ℕ → (ℕ → Expanded) → Expanded
-onLabel none f = refusedBy 20
+onLabel none f = refused 20
 onLabel (some a) f = f a
 
 -- "or a register in place of print_str's, read's or read_byte's label"
 abbrev pub noRegister : Option ℕ → Expanded → Expanded
 noRegister none e = e
-noRegister (some n) e = refusedBy 18
+noRegister (some n) e = refused 18
 
 -- "19 li operand": a number, or an equate that 32 signed bits hold; a text that begins with a quote is no name
 abbrev pub liConstant : Option ℤ → (ℤ → Expanded) → Expanded
-liConstant none f = refusedBy 19
-liConstant (some z) f = cond (isSigned32 z) (f z) (refusedBy 19)
+liConstant none f = refused 19
+liConstant (some z) f = cond (isSigned32 z) (f z) (refused 19)
 
 abbrev pub onNumber : Option ℤ → List ℕ → (List ℕ → Option ℤ) → (ℤ → Expanded) → Expanded
 onNumber (some z) b const f = f z
-onNumber none b const f = cond (startsWith (text "'") b) (refusedBy 19) (liConstant (const b) f)
+onNumber none b const f = cond (startsWith (text "'") b) (refused 19) (liConstant (const b) f)
 
 abbrev pub liLoad : Register → ℤ → Expanded
-liLoad rd z = instructions (cond (isSigned12 z) (Addi rd x0 z ∷ []) (loadPair rd (bits 32 z)))
+liLoad rd z = value (cond (isSigned12 z) (Addi rd x0 z ∷ []) (loadPair rd (bits 32 z)))
 
 -- what each pseudo stands for, of its operands; `const` gives an equate's value, `label` a label's address
 unfoldable pub expansion : (List ℕ → Option ℤ) → (List ℕ → Option ℕ) → Pseudo → List (List ℕ) → Expanded
 expansion const label Li ops = twoOperands ops (λ a b. onRegister (registerOf a) (λ rd. onNumber (immOf b) b const (liLoad rd)))
-expansion const label La ops = twoOperands ops (λ a b. onRegister (registerOf a) (λ rd. onLabel (label b) (λ n. instructions (loadPair rd n))))
+expansion const label La ops = twoOperands ops (λ a b. onRegister (registerOf a) (λ rd. onLabel (label b) (λ n. value (loadPair rd n))))
 expansion const label Push ops =
-    oneOperand ops (λ a. onRegister (registerOf a) (λ rs. instructions (Addi sp sp (negℤ (pos 4)) ∷ Sw rs sp (pos 0) ∷ [])))
+    oneOperand ops (λ a. onRegister (registerOf a) (λ rs. value (Addi sp sp (negℤ (pos 4)) ∷ Sw rs sp (pos 0) ∷ [])))
 expansion const label Pop ops =
-    oneOperand ops (λ a. onRegister (registerOf a) (λ rd. instructions (Lw rd sp (pos 0) ∷ Addi sp sp (pos 4) ∷ [])))
+    oneOperand ops (λ a. onRegister (registerOf a) (λ rd. value (Lw rd sp (pos 0) ∷ Addi sp sp (pos 4) ∷ [])))
 expansion const label Print ops =
-    oneOperand ops (λ a. onRegister (registerOf a) (λ rd. instructions (Addi a7 x0 (pos 1000) ∷ Addi a0 rd (pos 0) ∷ Ecall ∷ [])))
+    oneOperand ops (λ a. onRegister (registerOf a) (λ rd. value (Addi a7 x0 (pos 1000) ∷ Addi a0 rd (pos 0) ∷ Ecall ∷ [])))
 -- the length is counted up to the byte 0, then written to standard output
 expansion const label PrintStr ops =
-    oneOperand ops (λ a. noRegister (registerOf a) (onLabel (label a) (λ n. instructions (
+    oneOperand ops (λ a. noRegister (registerOf a) (onLabel (label a) (λ n. value (
     loadPair a1 n ++ Addi a2 a1 (pos 0) ∷ Lbu t0 a2 (pos 0) ∷ Beq t0 x0 (pos 12) ∷ Addi a2 a2 (pos 1) ∷ Jal x0 (negℤ (pos 12)) ∷
     Sub a2 a2 a1 ∷ Addi a0 x0 (pos 1) ∷ Addi a7 x0 (pos 64) ∷ Ecall ∷ []))))
 expansion const label Read ops =
-    oneOperand ops (λ a. noRegister (registerOf a) (onLabel (label a) (λ n. instructions (
+    oneOperand ops (λ a. noRegister (registerOf a) (onLabel (label a) (λ n. value (
     Addi a0 x0 (pos 0) ∷ loadPair a1 n ++ Addi a2 x0 (pos 256) ∷ Addi a7 x0 (pos 63) ∷ Ecall ∷ []))))
 expansion const label ReadByte ops =
-    oneOperand ops (λ a. noRegister (registerOf a) (onLabel (label a) (λ n. instructions (
+    oneOperand ops (λ a. noRegister (registerOf a) (onLabel (label a) (λ n. value (
     Addi a7 x0 (pos 1010) ∷ loadPair a0 n ++ Ecall ∷ []))))
 expansion const label Random ops =
-    oneOperand ops (λ a. onRegister (registerOf a) (λ rd. instructions (
+    oneOperand ops (λ a. onRegister (registerOf a) (λ rd. value (
     Addi sp sp (negℤ (pos 4)) ∷ Addi a7 x0 (pos 278) ∷ Addi a0 sp (pos 0) ∷ Addi a1 x0 (pos 4) ∷ Addi a2 x0 (pos 0) ∷ Ecall ∷
     Lw rd sp (pos 0) ∷ Addi sp sp (pos 4) ∷ [])))

@@ -6,9 +6,11 @@ use mathlib.Core.Option.{Option, none, some}
 use lib.Dec.{leb, eqb}
 use lib.ListN.{length, take, drop}
 use lib.IntN.{ℤ, pos, _+ℤ_}
+use Rattle.numbers.specs.Results.{Result, value, refused}
 use Rattle.numbers.specs.Text.{byte, leading}
 use Rattle.numbers.specs.Ints.{fit64, signTimes}
 use Rattle.numbers.specs.Numbers.{prefixed}
+use Rattle.layout.specs.Bytes.{isDigit, isLetter}
 
 pub data Token : Type 0 where
   plus : Token
@@ -22,19 +24,15 @@ pub data Token : Type 0 where
 abbrev pub isBlank : ℕ → Bool
 isBlank b = eqb b 9 || eqb b 10 || eqb b 13 || eqb b 32 || eqb b (byte ",")
 
-abbrev pub isDigit : ℕ → Bool
-isDigit b = leb (byte "0") b && leb b (byte "9")
-
-abbrev pub isLetter : ℕ → Bool
-isLetter b = (leb (byte "a") b && leb b (byte "z")) || (leb (byte "A") b && leb b (byte "Z"))
-
 -- "a name of letters, digits, `_`, `.` and `$` without a digit first"
 abbrev pub isNameByte : ℕ → Bool
 isNameByte b = isLetter b || isDigit b || eqb b (byte "_") || eqb b (byte ".") || eqb b (byte "$")
 
 -- the bytes that a number runs over, from the Rust: hexadecimal digits, `x` and `X`; what they do not make up is unreadable
 abbrev pub isNumberByte : ℕ → Bool
-isNumberByte b = isDigit b || (leb (byte "a") b && leb b (byte "f")) || (leb (byte "A") b && leb b (byte "F")) || eqb b (byte "x") || eqb b (byte "X")
+isNumberByte b =
+    isDigit b || (leb (byte "a") b && leb b (byte "f")) || (leb (byte "A") b && leb b (byte "F")) || eqb b (byte "x")
+    || eqb b (byte "X")
 
 -- a token, and how many bytes it takes
 pub record Scanned : Type 0 where
@@ -63,7 +61,7 @@ scan b s =
     (cond (isNameByte b) (scanned (nameToken (take (leading isNameByte s) s)) (leading isNameByte s))
     (scanned unreadable 1))))
 
--- the tokens of a text without blanks before it; each takes a byte, so as many turns as bytes are enough
+-- the tokens of a text without blanks before it; each takes a byte, so as many turns as bytes are enough (`tokens-enough`)
 unfoldable pub tokensIn : ℕ → List ℕ → List Token
 tokensIn zero s = []
 tokensIn (suc n) [] = []
@@ -87,15 +85,20 @@ unfoldable pub anyUnreadable : List Token → Bool
 anyUnreadable [] = false
 anyUnreadable (t ∷ ts) = isUnreadable t || anyUnreadable ts
 
--- what an evaluation comes to: a value, a name that has none yet, or a refusal
-pub data Evaluated : Type 0 where
-  value : ℤ → Evaluated
-  waits : Evaluated
-  refused : ℕ → Evaluated
+-- what an evaluation comes to: a value, none where a name has no value yet, or a refusal
+abbrev pub Evaluated : Type 0
+Evaluated = Result ℕ (Option ℤ)
 
--- what is to come: a term, joined by a minus or not, after an odd or even number of minus signs of its own; or `+` or `-`
+-- signs, as `signTimes` takes them
+abbrev pub positive : Bool
+positive = false
+
+abbrev pub negative : Bool
+negative = true
+
+-- what is to come: a term, with the sign that joins it and the sign that its own minus signs make; or `+` or `-`
 pub data Wanted : Type 0 where
-  term : Bool → Bool → Wanted
+  term : (joining own : Bool) → Wanted
   joint : Wanted
 
 abbrev pub onFit : Option ℤ → (ℤ → Evaluated) → Evaluated
@@ -103,25 +106,27 @@ onFit none f = refused 24
 onFit (some z) f = f z
 
 -- "24 a term times its own signs, that product times the joining operator, or a partial sum, beyond 64 signed bits"
-abbrev pub addTerm : ℤ → Bool → Bool → ℤ → (ℤ → Evaluated) → Evaluated
-addTerm sum joining own z f = onFit (fit64 (signTimes own z)) (λ p. onFit (fit64 (signTimes joining p)) (λ q. onFit (fit64 (sum +ℤ q)) f))
+abbrev pub addTerm : ℤ → (joining own : Bool) → ℤ → (ℤ → Evaluated) → Evaluated
+addTerm sum joining own z f =
+    onFit (fit64 (signTimes own z)) (λ p. onFit (fit64 (signTimes joining p)) (λ q. onFit (fit64 (sum +ℤ q)) f))
 
 abbrev pub onName : Option ℤ → (ℤ → Evaluated) → Evaluated
-onName none f = waits
+onName none f = value none
 onName (some z) f = f z
 
 -- "Terms, each negated by every `-` just before it, are added left to right in 64 signed bits"; 16 where a term or an operator is missing
 unfoldable pub sumFrom : (List ℕ → Option ℤ) → ℤ → ℤ → Wanted → List Token → Evaluated
 sumFrom look here sum (term joining own) [] = refused 16
-sumFrom look here sum joint [] = value sum
+sumFrom look here sum joint [] = value (some sum)
 sumFrom look here sum (term joining own) (plus ∷ ts) = sumFrom look here sum (term joining own) ts
 sumFrom look here sum (term joining own) (minus ∷ ts) = sumFrom look here sum (term joining (not own)) ts
 sumFrom look here sum (term joining own) (dot ∷ ts) = addTerm sum joining own here (λ z. sumFrom look here z joint ts)
 sumFrom look here sum (term joining own) (number v ∷ ts) = addTerm sum joining own v (λ z. sumFrom look here z joint ts)
-sumFrom look here sum (term joining own) (name n ∷ ts) = onName (look n) (λ v. addTerm sum joining own v (λ z. sumFrom look here z joint ts))
+sumFrom look here sum (term joining own) (name n ∷ ts) =
+    onName (look n) (λ v. addTerm sum joining own v (λ z. sumFrom look here z joint ts))
 sumFrom look here sum (term joining own) (unreadable ∷ ts) = refused 16
-sumFrom look here sum joint (plus ∷ ts) = sumFrom look here sum (term false false) ts
-sumFrom look here sum joint (minus ∷ ts) = sumFrom look here sum (term true false) ts
+sumFrom look here sum joint (plus ∷ ts) = sumFrom look here sum (term positive positive) ts
+sumFrom look here sum joint (minus ∷ ts) = sumFrom look here sum (term negative positive) ts
 sumFrom look here sum joint (dot ∷ ts) = refused 16
 sumFrom look here sum joint (number v ∷ ts) = refused 16
 sumFrom look here sum joint (name n ∷ ts) = refused 16
@@ -129,4 +134,4 @@ sumFrom look here sum joint (unreadable ∷ ts) = refused 16
 
 -- "its expression left to right with unreadable tokens first"; `look` gives a name's value, `here` is `.`
 unfoldable pub evaluate : (List ℕ → Option ℤ) → ℤ → List ℕ → Evaluated
-evaluate look here s = cond (anyUnreadable (tokens s)) (refused 16) (sumFrom look here (pos 0) (term false false) (tokens s))
+evaluate look here s = cond (anyUnreadable (tokens s)) (refused 16) (sumFrom look here (pos 0) (term positive positive) (tokens s))

@@ -1,23 +1,27 @@
--- The whole layout: the stages in document 01's order, and the records. Document 01, "Records", "Order".
-use Prim.Native.Nat.{ℕ, suc, _+_, _-_}
+-- The whole layout: the stages in document 01's order, and the call's answer. Document 01, "Records", "Order".
+use Prim.Native.Nat.{ℕ, suc, _+_}
 use mathlib.Core.List.{List, [], _∷_, _++_, map}
-use mathlib.Core.Bool.{true, false, cond}
+use mathlib.Core.Bool.{Bool, true, false, cond}
 use mathlib.Core.Option.{Option, none, some}
 use lib.Dec.{ltb, eqb}
 use lib.ListN.{length, replicate}
 use lib.IntN.{ℤ}
-use Rattle.numbers.specs.Ints.{bits}
-use Rattle.encoder.specs.Encoding.{Answer, word, encoding}
-use Rattle.encoder.specs.Encoding as enc
+use Rattle.numbers.specs.Results.{Result, value, refused, andThen, mapped}
+use Rattle.encoder.specs.Encoding.{encoding}
 use Rattle.encoder.specs.declared.instruction.Instruction.{Instruction}
+use Rattle.layout.specs.declared.state.Section.the-variants as section
+use Rattle.layout.specs.declared.pseudo.Pseudo.{Pseudo}
+use Rattle.layout.specs.Bytes.{padded}
+use Rattle.layout.specs.Refusals.{Refusal, atLine}
+use Rattle.layout.specs.Limits.{baseLimit, textLimit, Lent, roomOf}
 use Rattle.layout.specs.Pieces.{Piece, lines, linePieces}
-use Rattle.layout.specs.declared.line.Pseudo.{Pseudo}
 use Rattle.layout.specs.Pseudos.{pseudoOperands, itemKind}
-use Rattle.layout.specs.Directives.{le}
-use Rattle.layout.specs.Stage.{Lent, State, ItemLine, Move, go, stop, start, lineStage}
-use Rattle.layout.specs.Addresses.{LabelAt, placed, ordered, labelAddress, Filled, filled, undefined, fill}
-use Rattle.layout.specs.Rounds.{Found, Known, pendingEquate, constant, Round, through, stopped, rounds}
-use Rattle.layout.specs.Expansions.{Expanded, instructions, refusedBy, expansion}
+use Rattle.layout.specs.State.{ItemLine, Equate, State, start}
+use Rattle.layout.specs.Stage.{lineStage}
+use Rattle.layout.specs.Addresses.{sectionStart, LabelAt, placed, ordered, labelAddress, fill}
+use Rattle.layout.specs.Rounds.{Found, Known, pendingEquate, constant, Turns, rounds}
+use Rattle.layout.specs.Expansions.{expansion}
+use Rattle.layout.specs.Records.{labelRecord, labelFields, equateRecord, equateFields, itemRecord, itemFields, tableOf}
 
 -- an equate with its value and round, and an item with its first word's index
 pub record EquateAt : Type 0 where
@@ -36,63 +40,41 @@ pub record ItemAt : Type 0 where
 -- an accepted layout
 pub record Layout : Type 0 where
   pub words : List ℕ
-  pub image : List ℕ
-  pub imageBase : ℕ
-  pub bss : ℕ
+  pub dataBytes : List ℕ
+  pub dataBase : ℕ
+  pub bssSize : ℕ
   pub labels : List LabelAt
   pub equates : List EquateAt
   pub items : List ItemAt
   pub evaluations : ℕ
 
--- accepted, or refused with a number and a 0-based line
-pub data Outcome : Type 0 where
-  accepted : Layout → Outcome
-  refused : ℕ → ℕ → Outcome
-
 -- ---- items to words
 
--- an item's words, or a refusal
-pub data Emission : Type 0 where
-  emits : List ℕ → Emission
-  refuses : ℕ → Emission
-
-abbrev pub consWord : ℕ → Emission → Emission
-consWord w (emits ws) = emits (w ∷ ws)
-consWord w (refuses n) = refuses n
-
--- the encoder refuses no expansion (proofs/Emissions.antt: `emission-refused`); the case is there because Answer has it
-abbrev pub onAnswer : Answer → Emission → Emission
-onAnswer (word w) e = consWord w e
-onAnswer (enc.refused n) e = refuses n
-
--- the instructions' words in order
-unfoldable pub encoded : List Instruction → Emission
-encoded [] = emits []
-encoded (i ∷ is) = onAnswer (encoding i) (encoded is)
-
-abbrev pub onExpanded : Expanded → Emission
-onExpanded (instructions is) = encoded is
-onExpanded (refusedBy n) = refuses n
+-- the instructions' words in order; the encoder refuses no expansion (`emission-refused`)
+unfoldable pub encoded : List Instruction → Result ℕ (List ℕ)
+encoded [] = value []
+encoded (i ∷ is) = andThen (encoding i) (λ w. mapped (λ ws. w ∷ ws) (encoded is))
 
 -- "An ordinary instruction line yields an item and one text word 0"; a pseudo yields its expansion's words
-abbrev pub emission : (List ℕ → Option ℤ) → (List ℕ → Option ℕ) → Option Pseudo → List ℕ → Emission
-emission const label none s = emits (0 ∷ [])
-emission const label (some p) s = onExpanded (expansion const label p (pseudoOperands s))
+abbrev pub emission : (List ℕ → Option ℤ) → (List ℕ → Option ℕ) → Option Pseudo → List ℕ → Result ℕ (List ℕ)
+emission const label none s = value (0 ∷ [])
+emission const label (some p) s = andThen (expansion const label p (pseudoOperands s)) encoded
 
--- what the items so far come to
-pub data Emitted : Type 0 where
-  emitted : List ℕ → List ItemAt → Emitted
-  halted : ℕ → ℕ → Emitted
+-- the words and the items so far
+pub record Emitted : Type 0 where
+  pub words : List ℕ
+  pub items : List ItemAt
 
-abbrev pub emitOne : ℕ → List ℕ → List ItemAt → ItemLine → Emission → (List ℕ → List ItemAt → Emitted) → Emitted
-emitOne base ws is x (refuses n) f = halted n (x .line)
-emitOne base ws is x (emits vs) f =
-    f (ws ++ vs) (is ++ record { address = base + x .offset; line = x .line; kind = itemKind (x .item); first = length ws; source = x .source } ∷ [])
+-- an item whose first word stands after so many
+abbrev pub itemAt : ℕ → ItemLine → ℕ → ItemAt
+itemAt base x n = record { address = base + x .offset; line = x .line; kind = itemKind (x .item); first = n; source = x .source }
 
 -- "then pseudos in order"
-unfoldable pub emit : ℕ → (List ℕ → Option ℤ) → (List ℕ → Option ℕ) → List ItemLine → List ℕ → List ItemAt → Emitted
-emit base const label [] ws is = emitted ws is
-emit base const label (x ∷ xs) ws is = emitOne base ws is x (emission const label (x .item) (x .source .bytes)) (emit base const label xs)
+unfoldable pub emit : ℕ → (List ℕ → Option ℤ) → (List ℕ → Option ℕ) → List ItemLine → List ℕ → List ItemAt → Result Refusal Emitted
+emit base const label [] ws is = value (record { words = ws; items = is })
+emit base const label (x ∷ xs) ws is =
+    andThen (atLine (x .line) (emission const label (x .item) (x .source .bytes))) (λ vs.
+    emit base const label xs (ws ++ vs) (is ++ itemAt base x (length ws) ∷ []))
 
 -- ---- the stages
 
@@ -100,127 +82,126 @@ abbrev pub consFound : Known → Option Found → List EquateAt → List EquateA
 consFound k none es = es
 consFound k (some f) es = record { name = k .equate .name; line = k .equate .line; value = f .value; round = f .round } ∷ es
 
--- the equates with their values, in text order
+-- the equates with their values, in text order; when the rounds are through, every one has its value (`all-end`)
 unfoldable pub foundEquates : List Known → List EquateAt
 foundEquates [] = []
 foundEquates (k ∷ ks) = consFound k (k .found) (foundEquates ks)
 
-abbrev pub finish : ℕ → State → List ℕ → List Known → ℕ → Emitted → Outcome
-finish base σ image ks n (halted m line) = refused m line
-finish base σ image ks n (emitted ws is) =
-    accepted (record {
-      words = ws;
-      image = image;
-      imageBase = base + 0x1000;
-      bss = σ .bss;
+-- a refusal where a test holds
+abbrev pub refuseIf : Bool → ℕ → ℕ → Result Refusal Unit
+refuseIf true n line = refused (record { number = n; line = line })
+refuseIf false n line = value tt
+
+-- "1 byte above 127": at the line of the first
+unfoldable pub checkBytes : ℕ → List ℕ → Result Refusal Unit
+checkBytes line [] = value tt
+checkBytes line (b ∷ bs) =
+    elim (ltb 127 b) [ true ↦ refused (record { number = 1; line = line }) | false ↦ checkBytes (cond (eqb b 10) (suc line) line) bs ]
+
+-- the rounds of all equates, from the first on
+abbrev pub resolve : ℕ → State → List Equate → Result Refusal Turns
+resolve base σ es = rounds base σ (suc (length es)) 1 (map pendingEquate es) 0
+
+-- what is accepted
+abbrev pub layout : ℕ → State → List ℕ → Turns → Emitted → Layout
+layout base σ bytes x e =
+    record {
+      words = e .words;
+      dataBytes = bytes;
+      dataBase = sectionStart base σ section.Data;
+      bssSize = σ .rest .own .bss;
       labels = ordered (map (placed base σ) (σ .labels));
-      equates = foundEquates ks;
-      items = is;
-      evaluations = n;
-    })
+      equates = foundEquates (x .known);
+      items = e .items;
+      evaluations = x .evaluations;
+    }
 
-abbrev pub afterRounds : ℕ → State → List ℕ → Round → Outcome
-afterRounds base σ image (stopped m line) = refused m line
-afterRounds base σ image (through ks n) = finish base σ image ks n (emit base (constant ks) (labelAddress base σ) (σ .items) [] [])
+-- after the lines: "13 in text order; equates by round ..; then pseudos in order"
+unfoldable pub afterLines : ℕ → State → Result Refusal Layout
+afterLines base σ =
+    andThen (fill (labelAddress base σ) (σ .rest .own .stored .labelWords) (σ .rest .own .stored .bytes)) (λ bytes.
+    andThen (resolve base σ (σ .rest .equates)) (λ x.
+    andThen (emit base (constant (x .known)) (labelAddress base σ) (σ .rest .own .items .list) [] []) (λ e.
+    value (layout base σ bytes x e))))
 
-abbrev pub afterFill : ℕ → State → Filled → Outcome
-afterFill base σ (undefined line) = refused 13 line
-afterFill base σ (filled image) = afterRounds base σ image (rounds base σ (suc (length (σ .equates))) 1 (map pendingEquate (σ .equates)) 0)
-
-abbrev pub afterLines : ℕ → Move → Outcome
-afterLines base (stop n line) = refused n line
-afterLines base (go σ) = afterFill base σ (fill (labelAddress base σ) (σ .labelWords) (σ .image))
-
--- "1 byte above 127": the line of the first
-unfoldable pub highByte : ℕ → List ℕ → Option ℕ
-highByte line [] = none
-highByte line (b ∷ bs) = elim (ltb 127 b) [ true ↦ some line | false ↦ highByte (cond (eqb b 10) (suc line) line) bs ]
-
-abbrev pub afterBytes : List ℕ → ℕ → Lent → Option ℕ → Outcome
-afterBytes t base k (some line) = refused 1 line
-afterBytes t base k none = afterLines base (lineStage k 0 (linePieces 0 (lines t)) start)
-
--- "40 base above 0xFF000000, line 0. 41 text above 65,536 bytes, line 0"
-abbrev pub baseLimit : ℕ
-baseLimit = 0xFF000000
-
-abbrev pub textLimit : ℕ
-textLimit = 65536
-
--- "40, 41, 1; then lines in order"
-unfoldable pub layoutOf : List ℕ → ℕ → Lent → Outcome
+-- "Order: 40, 41, 1; then lines in order ..": accepted, or refused with a number and a line
+unfoldable pub layoutOf : List ℕ → ℕ → Lent → Result Refusal Layout
 layoutOf t base k =
-    elim (ltb baseLimit base) [
-      | true ↦ refused 40 0
-      | false ↦ elim (ltb textLimit (length t)) [ true ↦ refused 41 0 | false ↦ afterBytes t base k (highByte 0 t) ]
-    ]
+    andThen (refuseIf (ltb baseLimit base) 40 0) (λ _.
+    andThen (refuseIf (ltb textLimit (length t)) 41 0) (λ _.
+    andThen (checkBytes 0 t) (λ _.
+    andThen (lineStage (roomOf k) 0 (linePieces 0 (lines t)) start) (afterLines base))))
 
--- ---- records: "Little-endian, one fixed size, no header, fields of 4 bytes unless said"
+-- ---- the call's whole answer: "refused or accepted, the answer and the content of each output"
 
--- "name start in the text, name length, address, line"
-abbrev pub labelRecord : LabelAt → List ℕ
-labelRecord l = le 4 (l .name .at) ++ le 4 (length (l .name .bytes)) ++ le 4 (l .address) ++ le 4 (l .line)
-
--- "name start, name length, line, value (8 bytes), round"
-abbrev pub equateRecord : EquateAt → List ℕ
-equateRecord e = le 4 (e .name .at) ++ le 4 (length (e .name .bytes)) ++ le 4 (e .line) ++ le 8 (bits 64 (e .value)) ++ le 4 (e .round)
-
--- "address, line, kind (..), first word's index, source start, source length"
-abbrev pub itemRecord : ItemAt → List ℕ
-itemRecord i = le 4 (i .address) ++ le 4 (i .line) ++ le 4 (i .kind) ++ le 4 (i .first) ++ le 4 (i .source .at) ++ le 4 (length (i .source .bytes))
-
--- ---- what the answer counts and the lent buffers hold: "Output after the used part is zero"; the order's demand 1, "after a refusal every lent
--- output is all zeros and every count 0"
-
+-- what is counted
 pub record Counts : Type 0 where
   pub words : ℕ
-  pub image : ℕ
-  pub imageBase : ℕ
-  pub bss : ℕ
+  pub dataBytes : ℕ
+  pub dataBase : ℕ
+  pub bssSize : ℕ
   pub labels : ℕ
   pub equates : ℕ
   pub items : ℕ
   pub evaluations : ℕ
 
-abbrev pub countsOf : Outcome → Counts
-countsOf (accepted l) = record {
-  words = length (l .words);
-  image = length (l .image);
-  imageBase = l .imageBase;
-  bss = l .bss;
-  labels = length (l .labels);
-  equates = length (l .equates);
-  items = length (l .items);
-  evaluations = l .evaluations;
-}
-countsOf (refused n line) = record { words = 0; image = 0; imageBase = 0; bss = 0; labels = 0; equates = 0; items = 0; evaluations = 0 }
-
+-- what the lent buffers hold
 pub record Buffers : Type 0 where
   pub words : List ℕ
-  pub image : List ℕ
+  pub dataBytes : List ℕ
   pub labels : List ℕ
   pub equates : List ℕ
   pub items : List ℕ
 
-abbrev pub padded : ℕ → List ℕ → List ℕ
-padded n xs = xs ++ replicate (n - length xs) 0
+-- number 0: accepted
+pub record Answer : Type 0 where
+  pub number : ℕ
+  pub line : ℕ
+  pub counts : Counts
+  pub buffers : Buffers
 
-unfoldable pub together : List (List ℕ) → List ℕ
-together [] = []
-together (r ∷ rs) = r ++ together rs
+abbrev pub countsOf : Layout → Counts
+countsOf l =
+    record {
+      words = length (l .words);
+      dataBytes = length (l .dataBytes);
+      dataBase = l .dataBase;
+      bssSize = l .bssSize;
+      labels = length (l .labels);
+      equates = length (l .equates);
+      items = length (l .items);
+      evaluations = l .evaluations;
+    }
 
-abbrev pub buffersOf : Lent → Outcome → Buffers
-buffersOf k (accepted l) = record {
-  words = padded (k .words) (l .words);
-  image = padded (k .dataBytes) (l .image);
-  labels = padded (k .labelBytes) (together (map labelRecord (l .labels)));
-  equates = padded (k .equateBytes) (together (map equateRecord (l .equates)));
-  items = padded (k .itemBytes) (together (map itemRecord (l .items)));
-}
-buffersOf k (refused n line) = record {
-  words = replicate (k .words) 0;
-  image = replicate (k .dataBytes) 0;
-  labels = replicate (k .labelBytes) 0;
-  equates = replicate (k .equateBytes) 0;
-  items = replicate (k .itemBytes) 0;
-}
+-- "Output after the used part is zero"
+abbrev pub buffersOf : Lent → Layout → Buffers
+buffersOf k l =
+    record {
+      words = padded (k .words) (l .words);
+      dataBytes = padded (k .dataBytes) (l .dataBytes);
+      labels = tableOf (k .labelBytes) (λ x. labelFields (labelRecord (x .name) (x .address) (x .line))) (l .labels);
+      equates = tableOf (k .equateBytes) (λ x. equateFields (equateRecord (x .name) (x .line) (x .value) (x .round))) (l .equates);
+      items = tableOf (k .itemBytes) (λ x. itemFields (itemRecord (x .address) (x .line) (x .kind) (x .first) (x .source))) (l .items);
+    }
+
+-- the order's demand 1: "after a refusal every lent output is all zeros and every count 0"
+abbrev pub noCounts : Counts
+noCounts = record { words = 0; dataBytes = 0; dataBase = 0; bssSize = 0; labels = 0; equates = 0; items = 0; evaluations = 0 }
+
+abbrev pub zeroBuffers : Lent → Buffers
+zeroBuffers k =
+    record {
+      words = replicate (k .words) 0;
+      dataBytes = replicate (k .dataBytes) 0;
+      labels = replicate (k .labelBytes) 0;
+      equates = replicate (k .equateBytes) 0;
+      items = replicate (k .itemBytes) 0;
+    }
+
+abbrev pub answerOf : Lent → Result Refusal Layout → Answer
+answerOf k (value l) = record { number = 0; line = 0; counts = countsOf l; buffers = buffersOf k l }
+answerOf k (refused r) = record { number = r .number; line = r .line; counts = noCounts; buffers = zeroBuffers k }
+
+-- what the call gives for a text, a base and what is lent
+abbrev pub callOf : List ℕ → ℕ → Lent → Answer
+callOf t base k = answerOf k (layoutOf t base k)

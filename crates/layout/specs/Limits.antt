@@ -1,84 +1,62 @@
--- What has been laid out fits: the names of labels and equates, expressions and items' sources are pieces of the text, its counts are within
--- their limits and what is lent.
--- Document 01, "Refused because of the state"; what every step of the line stage keeps.
-use Prim.Native.Nat.{ℕ, _+_, _*_, _/_, min, _≤_, _<_}
-use mathlib.Core.Path.{_≡_}
-use mathlib.Core.List.{List, [], _∷_}
-use lib.ListN.{length, take, drop}
-use Rattle.layout.specs.declared.line.Section.{Section}
-use Rattle.layout.specs.declared.line.Section.the-variants as section
-use Rattle.layout.specs.Pieces.{Piece}
-use Rattle.layout.specs.Pseudos.{reservedWords}
-use Rattle.layout.specs.Stage.{Lent, wordLimit, dataLimit, bssLimit, labelLimit, equateLimit, labelWordLimit, itemLimit, labelSize, equateSize, itemSize, Label, Equate, ItemLine, LabelWord, State}
+-- Limits, record sizes, and how much may be laid out. Document 01, "Records", "Refused because of the state".
+use Prim.Native.Nat.{ℕ, _/_, min}
+use Rattle.layout.specs.declared.limits.Room.{Room}
 
--- a property of every element of a list
-abbrev pub Each : {A : Type 0} → (A → Type 0) → List A → Type 0
-Each P [] = Unit
-Each P (x ∷ xs) = P x × Each P xs
+-- "40 base above 0xFF000000", "41 text above 65,536 bytes"
+abbrev pub baseLimit : ℕ
+baseLimit = 0xFF000000
 
--- the text has the piece's bytes where it starts
-pub record Inside (t : List ℕ) (p : Piece) : Type 0 where
-  pub within : p .at + length (p .bytes) ≤ length t
-  pub is : take (length (p .bytes)) (drop (p .at) t) ≡ p .bytes
+abbrev pub textLimit : ℕ
+textLimit = 65536
 
--- the most bytes that a section holds
-abbrev pub limit : Section → ℕ
-limit section.Text = 4 * wordLimit
-limit section.Data = dataLimit
-limit section.Bss = bssLimit
+-- "42 data above 65,536 bytes", "43 bss above 1,048,576", "44 reserved words above 16,384"
+abbrev pub dataLimit : ℕ
+dataLimit = 65536
 
-pub record LabelFits (t : List ℕ) (l : Label) : Type 0 where
-  pub name : Inside t (l .name)
-  pub place : l .place .offset ≤ limit (l .place .section)
-  pub line : l .line < length t
+abbrev pub bssLimit : ℕ
+bssLimit = 1048576
 
-pub record EquateFits (t : List ℕ) (e : Equate) : Type 0 where
-  pub name : Inside t (e .name)
-  pub source : Inside t (e .expression .source)
-  pub place : e .place .offset ≤ limit (e .place .section)
-  pub line : e .line < length t
+abbrev pub wordLimit : ℕ
+wordLimit = 16384
 
--- the words that an item reserves lie within the section
-pub record ItemFits (t : List ℕ) (x : ItemLine) : Type 0 where
-  pub source : Inside t (x .source)
-  pub place : x .offset + 4 * reservedWords (x .item) (x .source .bytes) ≤ limit section.Text
-  pub line : x .line < length t
+-- "45 labels above 1,024", "46 equates above 256", "47 label words above 1,024", "48 items above 2,048"
+abbrev pub labelLimit : ℕ
+labelLimit = 1024
 
--- a label's address has its four bytes among n
-pub record LabelWordFits (t : List ℕ) (n : ℕ) (w : LabelWord) : Type 0 where
-  pub place : w .at + 4 ≤ n
-  pub line : w .line < length t
+abbrev pub equateLimit : ℕ
+equateLimit = 256
 
--- the words that items reserve together
-unfoldable pub reservedIn : List ItemLine → ℕ
-reservedIn [] = 0
-reservedIn (x ∷ xs) = reservedWords (x .item) (x .source .bytes) + reservedIn xs
+abbrev pub labelWordLimit : ℕ
+labelWordLimit = 1024
 
--- each kind of record within its limit and what is lent for it
-pub record LabelsFit (t : List ℕ) (k : Lent) (ls : List Label) : Type 0 where
-  pub few : length ls ≤ min labelLimit (k .labelBytes / labelSize)
-  pub each : Each (LabelFits t) ls
+abbrev pub itemLimit : ℕ
+itemLimit = 2048
 
-pub record EquatesFit (t : List ℕ) (k : Lent) (es : List Equate) : Type 0 where
-  pub few : length es ≤ min equateLimit (k .equateBytes / equateSize)
-  pub each : Each (EquateFits t) es
+-- "Label, 16 bytes", "Equate, 24 bytes", "Item, 24 bytes"
+abbrev pub labelSize : ℕ
+labelSize = 16
 
--- and the text's words, which are those that its items reserve
-pub record ItemsFit (t : List ℕ) (k : Lent) (words : ℕ) (xs : List ItemLine) : Type 0 where
-  pub room : words ≤ min wordLimit (k .words)
-  pub sum : words ≡ reservedIn xs
-  pub few : length xs ≤ min itemLimit (k .itemBytes / itemSize)
-  pub each : Each (ItemFits t) xs
+abbrev pub equateSize : ℕ
+equateSize = 24
 
-pub record ImageFits (t : List ℕ) (k : Lent) (image : List ℕ) (ws : List LabelWord) : Type 0 where
-  pub room : length image ≤ min dataLimit (k .dataBytes)
-  pub few : length ws ≤ labelWordLimit
-  pub each : Each (LabelWordFits t (length image)) ws
+abbrev pub itemSize : ℕ
+itemSize = 24
 
--- what has been laid out fits
-pub record Fits (t : List ℕ) (k : Lent) (σ : State) : Type 0 where
-  pub labels : LabelsFit t k (σ .labels)
-  pub equates : EquatesFit t k (σ .equates)
-  pub items : ItemsFit t k (σ .words) (σ .items)
-  pub image : ImageFits t k (σ .image) (σ .labelWords)
-  pub bss : σ .bss ≤ limit section.Bss
+-- what the caller lends: so many words, and so many bytes for the data and the three kinds of record
+pub record Lent : Type 0 where
+  pub words : ℕ
+  pub dataBytes : ℕ
+  pub labelBytes : ℕ
+  pub equateBytes : ℕ
+  pub itemBytes : ℕ
+
+-- how much may be laid out: each limit met with "the lent length" or "the lent records"
+abbrev pub roomOf : Lent → Room
+roomOf k =
+    record {
+      words = min wordLimit (k .words);
+      bytes = min dataLimit (k .dataBytes);
+      labels = min labelLimit (k .labelBytes / labelSize);
+      equates = min equateLimit (k .equateBytes / equateSize);
+      items = min itemLimit (k .itemBytes / itemSize);
+    }

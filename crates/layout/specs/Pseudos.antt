@@ -10,9 +10,9 @@ use Rattle.numbers.specs.Text.{text, isSpace, startsWith, same, oneSpaced}
 use Rattle.numbers.specs.Ints.{isSigned12}
 use Rattle.numbers.specs.Numbers.{immOf}
 use Rattle.numbers.specs.Operands.{itemOperands}
-use Rattle.layout.specs.declared.line.Pseudo.{Pseudo}
-use Rattle.layout.specs.declared.line.Pseudo.the-variants.{Li, La, Push, Pop, Print, PrintStr, Read, ReadByte, Random}
-use Rattle.layout.specs.Statements.{countBefore}
+use Rattle.layout.specs.declared.pseudo.Pseudo.{Pseudo}
+use Rattle.layout.specs.declared.pseudo.Pseudo.the-variants.{Li, La, Push, Pop, Print, PrintStr, Read, ReadByte, Random}
+use Rattle.layout.specs.Bytes.{countBefore}
 
 -- what an item is: an ordinary line, one of the nine, or one of the four others, which is 21
 pub data Item : Type 0 where
@@ -29,16 +29,30 @@ pub record Spelling : Type 0 where
 abbrev spelled : List ℕ → Item → Bool → Spelling
 spelled n i b = record { name = n; item = i; bare = b }
 
--- "A pseudo's name, in any spelling that `assemble` lists, is followed by a space or, except li, la, push, pop and random_bytes, ends the line"
+-- "A pseudo's name, in any spelling that `assemble` lists, is followed by a space or, except li, la, push, pop and random_bytes, ends
+-- the line"
 unfoldable pub spellings : List Spelling
 spellings =
-    spelled (text "li") (pseudo Li) false ∷ spelled (text "la") (pseudo La) false ∷ spelled (text "push") (pseudo Push) false ∷
-    spelled (text "pop") (pseudo Pop) false ∷ spelled (text "print") (pseudo Print) true ∷
-    spelled (text "print_str") (pseudo PrintStr) true ∷ spelled (text "printStr") (pseudo PrintStr) true ∷ spelled (text "printString") (pseudo PrintStr) true ∷
-    spelled (text "print_str_ln") other true ∷ spelled (text "printStrLn") other true ∷ spelled (text "read") (pseudo Read) true ∷
-    spelled (text "read_byte") (pseudo ReadByte) true ∷ spelled (text "readByte") (pseudo ReadByte) true ∷
-    spelled (text "read_half") other true ∷ spelled (text "readHalf") other true ∷ spelled (text "read_word") other true ∷ spelled (text "readWord") other true ∷
-    spelled (text "random") (pseudo Random) true ∷ spelled (text "random_bytes") other false ∷ spelled (text "randomBytes") other false ∷ []
+    spelled (text "li") (pseudo Li) false ∷
+    spelled (text "la") (pseudo La) false ∷
+    spelled (text "push") (pseudo Push) false ∷
+    spelled (text "pop") (pseudo Pop) false ∷
+    spelled (text "print") (pseudo Print) true ∷
+    spelled (text "print_str") (pseudo PrintStr) true ∷
+    spelled (text "printStr") (pseudo PrintStr) true ∷
+    spelled (text "printString") (pseudo PrintStr) true ∷
+    spelled (text "print_str_ln") other true ∷
+    spelled (text "printStrLn") other true ∷
+    spelled (text "read") (pseudo Read) true ∷
+    spelled (text "read_byte") (pseudo ReadByte) true ∷
+    spelled (text "readByte") (pseudo ReadByte) true ∷
+    spelled (text "read_half") other true ∷
+    spelled (text "readHalf") other true ∷
+    spelled (text "read_word") other true ∷
+    spelled (text "readWord") other true ∷
+    spelled (text "random") (pseudo Random) true ∷
+    spelled (text "random_bytes") other false ∷
+    spelled (text "randomBytes") other false ∷ []
 
 -- followed by a space, or the whole line
 abbrev pub isSpelled : Spelling → List ℕ → Bool

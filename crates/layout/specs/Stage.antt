@@ -1,143 +1,29 @@
 -- The line stage: labels, equates, items, data and bss, line by line, with the refusals in document 01's order.
 -- Document 01, "Lines to places", "Refused because of the state", "Order".
-use Prim.Native.Nat.{ℕ, suc, _+_, _-_, _*_, _/_, min}
+use Prim.Native.Nat.{ℕ, suc, _+_, _-_, _*_}
 use mathlib.Core.List.{List, [], _∷_, _++_}
 use mathlib.Core.Bool.{Bool, true, false, _||_}
 use mathlib.Core.Option.{Option, none, some}
 use lib.Dec.{ltb, leb}
 use lib.ListN.{length, replicate}
+use Rattle.numbers.specs.Results.{Result, value, refused, andThen, mapped}
 use Rattle.numbers.specs.Text.{same}
-use Rattle.layout.specs.declared.line.Section.{Section}
-use Rattle.layout.specs.declared.line.Section.the-variants as section
-use Rattle.layout.specs.declared.line.Pseudo.{Pseudo}
-use Rattle.layout.specs.Pieces.{Piece, statementOf}
-use Rattle.layout.specs.Statements as say
-use Rattle.layout.specs.Statements.{Expression, Statement, lineOf}
+use Rattle.numbers.specs.Numbers.{immOf}
+use Rattle.layout.specs.declared.state.Section.{Section}
+use Rattle.layout.specs.declared.state.Place.{Place}
+use Rattle.layout.specs.declared.limits.Room.{Room}
+use Rattle.layout.specs.declared.pseudo.Pseudo.{Pseudo}
+use Rattle.layout.specs.declared.directives.Reservation.{Reservation}
+use Rattle.layout.specs.Refusals.{Refusal, atLine}
+use Rattle.layout.specs.Limits.{bssLimit, labelWordLimit}
+use Rattle.layout.specs.Pieces.{Piece}
+use Rattle.layout.specs.Statements.{OwnStatement, item, stores, reserves, reservesBss}
+use Rattle.layout.specs.Statements.{Statement, nothing, enters, equate, own, Line, lineOf}
 use Rattle.layout.specs.Pseudos.{Item, ordinary, pseudo, other, itemOf, reservedWords}
-use Rattle.layout.specs.Directives.{Write, stores, zeros, aligns, addressOf, wrong, dataWrites, bssWrite, aligned}
+use Rattle.layout.specs.Directives.{Write, bytes, gap, addressOf, placeAfter, reservation, storeWrites}
+use Rattle.layout.specs.State.{Label, Equate, LabelWord, Items, Stored, Own, Rest, State, here}
 
--- what the caller lends: so many words, and so many bytes for the data and the three kinds of record
-pub record Lent : Type 0 where
-  pub words : ℕ
-  pub dataBytes : ℕ
-  pub labelBytes : ℕ
-  pub equateBytes : ℕ
-  pub itemBytes : ℕ
-
--- the limits, as "Refused because of the state" has them, whatever is lent
-abbrev pub wordLimit : ℕ
-wordLimit = 16384
-
-abbrev pub dataLimit : ℕ
-dataLimit = 65536
-
-abbrev pub bssLimit : ℕ
-bssLimit = 1048576
-
-abbrev pub labelLimit : ℕ
-labelLimit = 1024
-
-abbrev pub equateLimit : ℕ
-equateLimit = 256
-
-abbrev pub labelWordLimit : ℕ
-labelWordLimit = 1024
-
-abbrev pub itemLimit : ℕ
-itemLimit = 2048
-
--- a record's bytes: "Label, 16 bytes", "Equate, 24 bytes", "Item, 24 bytes"
-abbrev pub labelSize : ℕ
-labelSize = 16
-
-abbrev pub equateSize : ℕ
-equateSize = 24
-
-abbrev pub itemSize : ℕ
-itemSize = 24
-
--- a section and the bytes reserved there above: an address once the sections' starts are known
-pub record Place : Type 0 where
-  pub section : Section
-  pub offset : ℕ
-
-pub record Label : Type 0 where
-  pub name : Piece
-  pub place : Place
-  pub line : ℕ
-
-pub record Equate : Type 0 where
-  pub name : Piece
-  pub expression : Expression
-  pub place : Place
-  pub line : ℕ
-
-pub record ItemLine : Type 0 where
-  pub offset : ℕ
-  pub line : ℕ
-  -- none for an ordinary line
-  pub item : Option Pseudo
-  pub source : Piece
-
--- a `.word` of a label: where it stands in the data
-pub record LabelWord : Type 0 where
-  pub at : ℕ
-  pub name : List ℕ
-  pub line : ℕ
-
--- what has been laid out so far
-pub record State : Type 0 where
-  pub section : Section
-  pub words : ℕ
-  -- the data's bytes
-  pub image : List ℕ
-  pub bss : ℕ
-  pub labels : List Label
-  pub equates : List Equate
-  pub items : List ItemLine
-  pub labelWords : List LabelWord
-
--- the same state with one part anew
-abbrev pub inSection : Section → State → State
-inSection x σ = record { section = x; words = σ .words; image = σ .image; bss = σ .bss; labels = σ .labels; equates = σ .equates; items = σ .items; labelWords = σ .labelWords }
-
-abbrev pub withImage : List ℕ → State → State
-withImage x σ = record { section = σ .section; words = σ .words; image = x; bss = σ .bss; labels = σ .labels; equates = σ .equates; items = σ .items; labelWords = σ .labelWords }
-
-abbrev pub withBss : ℕ → State → State
-withBss x σ = record { section = σ .section; words = σ .words; image = σ .image; bss = x; labels = σ .labels; equates = σ .equates; items = σ .items; labelWords = σ .labelWords }
-
-abbrev pub withLabels : List Label → State → State
-withLabels x σ = record { section = σ .section; words = σ .words; image = σ .image; bss = σ .bss; labels = x; equates = σ .equates; items = σ .items; labelWords = σ .labelWords }
-
-abbrev pub withEquate : Equate → State → State
-withEquate x σ = record { section = σ .section; words = σ .words; image = σ .image; bss = σ .bss; labels = σ .labels; equates = σ .equates ++ x ∷ []; items = σ .items; labelWords = σ .labelWords }
-
-abbrev pub withItem : ℕ → ItemLine → State → State
-withItem n x σ = record { section = σ .section; words = σ .words + n; image = σ .image; bss = σ .bss; labels = σ .labels; equates = σ .equates; items = σ .items ++ x ∷ []; labelWords = σ .labelWords }
-
-abbrev pub withLabelWord : LabelWord → State → State
-withLabelWord x σ = record { section = σ .section; words = σ .words; image = σ .image; bss = σ .bss; labels = σ .labels; equates = σ .equates; items = σ .items; labelWords = σ .labelWords ++ x ∷ [] }
-
-pub data Move : Type 0 where
-  go : State → Move
-  stop : ℕ → ℕ → Move
-
-abbrev pub andThen : Move → (State → Move) → Move
-andThen (go σ) f = f σ
-andThen (stop n line) f = stop n line
-
-abbrev pub start : State
-start = record { section = section.Text; words = 0; image = []; bss = 0; labels = []; equates = []; items = []; labelWords = [] }
-
--- "A line's address, also its label's, is its section's start plus the bytes reserved there above it"
-abbrev pub offsetIn : Section → State → ℕ
-offsetIn section.Text σ = 4 * σ .words
-offsetIn section.Data σ = length (σ .image)
-offsetIn section.Bss σ = σ .bss
-
-abbrev pub here : State → Place
-here σ = record { section = σ .section; offset = offsetIn (σ .section) σ }
+-- ---- labels
 
 -- is there a label of this name?
 unfoldable pub isLabel : List ℕ → List Label → Bool
@@ -150,100 +36,138 @@ recorded x [] = x ∷ []
 recorded x (l ∷ ls) = elim (same (l .name .bytes) (x .name .bytes)) [ true ↦ x ∷ ls | false ↦ l ∷ recorded x ls ]
 
 -- "45 labels above 1,024 distinct names or the lent records"
-unfoldable pub addLabel : Lent → ℕ → Option Piece → State → Move
-addLabel k line none σ = go σ
-addLabel k line (some name) σ =
-    elim (isLabel (name .bytes) (σ .labels) || ltb (length (σ .labels)) (min labelLimit (k .labelBytes / labelSize))) [
-      | true ↦ go (withLabels (recorded (record { name = name; place = here σ; line = line }) (σ .labels)) σ)
-      | false ↦ stop 45 line
-    ]
+unfoldable pub addLabel : Room → Label → List Label → Result ℕ (List Label)
+addLabel k x ls =
+    elim (isLabel (x .name .bytes) ls || ltb (length ls) (k .labels)) [ true ↦ value (recorded x ls) | false ↦ refused 45 ]
+
+-- the label of a line that has one
+unfoldable pub labelStep : Room → Place → ℕ → Option Piece → List Label → Result ℕ (List Label)
+labelStep k place line none ls = value ls
+labelStep k place line (some name) ls = addLabel k (record { name = name; place = place; line = line }) ls
+
+-- ---- equates
 
 -- "46 equates above 256 or the lent records"
-unfoldable pub addEquate : Lent → ℕ → Piece → Expression → State → Move
-addEquate k line name expression σ =
-    elim (ltb (length (σ .equates)) (min equateLimit (k .equateBytes / equateSize))) [
-      | true ↦ go (withEquate (record { name = name; expression = expression; place = here σ; line = line }) σ)
-      | false ↦ stop 46 line
-    ]
+unfoldable pub addEquate : Room → Equate → List Equate → Result ℕ (List Equate)
+addEquate k x es = elim (ltb (length es) (k .equates)) [ true ↦ value (es ++ x ∷ []) | false ↦ refused 46 ]
+
+-- ---- items
 
 -- "48 items above 2,048 or the lent records", then "44 reserved words above 16,384 or the lent length"
-unfoldable pub addItem : Lent → ℕ → Option Pseudo → Piece → State → Move
-addItem k line item source σ =
-    elim (ltb (length (σ .items)) (min itemLimit (k .itemBytes / itemSize))) [
-      | true ↦ elim (leb (σ .words + reservedWords item (source .bytes)) (min wordLimit (k .words))) [
-        | true ↦ go (withItem (reservedWords item (source .bytes)) (record { offset = 4 * σ .words; line = line; item = item; source = source }) σ)
-        | false ↦ stop 44 line
+unfoldable pub addItem : Room → ℕ → Option Pseudo → Piece → Items → Result ℕ Items
+addItem k line kind source σ =
+    elim (ltb (length (σ .list)) (k .items)) [
+      | true ↦ elim (leb (σ .words + reservedWords kind (source .bytes)) (k .words)) [
+        | true ↦ value (record {
+          list = σ .list ++ record { offset = 4 * σ .words; line = line; item = kind; source = source } ∷ [];
+          words = σ .words + reservedWords kind (source .bytes);
+        })
+        | false ↦ refused 44
       ]
-      | false ↦ stop 48 line
+      | false ↦ refused 48
     ]
 
 -- "for an item 21, then 48, then 44"
-unfoldable pub textLine : Lent → ℕ → Piece → Item → State → Move
-textLine k line p other σ = stop 21 line
+unfoldable pub textLine : Room → ℕ → Piece → Item → Items → Result ℕ Items
+textLine k line p other σ = refused 21
 textLine k line p ordinary σ = addItem k line none p σ
 textLine k line p (pseudo q) σ = addItem k line (some q) p σ
 
--- "42 data above 65,536 bytes or the lent length": n bytes more, and what they are
-unfoldable pub addData : Lent → ℕ → ℕ → (State → Move) → State → Move
-addData k line n f σ = elim (leb (length (σ .image) + n) (min dataLimit (k .dataBytes))) [ true ↦ f σ | false ↦ stop 42 line ]
+-- ---- data
 
-abbrev pub append : List ℕ → State → Move
-append bs σ = go (withImage (σ .image ++ bs) σ)
+-- how many bytes a write takes where the data have p bytes, and which; an alignment never goes back (`aligned-bounds`)
+abbrev pub writeSize : ℕ → Write → ℕ
+writeSize p (bytes bs) = length bs
+writeSize p (gap r) = placeAfter p r - p
+writeSize p (addressOf name) = 4
 
--- "then 42, then 47": "47 label words above 1,024"
-unfoldable pub addLabelWord : ℕ → List ℕ → State → Move
-addLabelWord line name σ =
-    elim (ltb (length (σ .labelWords)) labelWordLimit) [
-      | true ↦ append (0 ∷ 0 ∷ 0 ∷ 0 ∷ []) (withLabelWord (record { at = length (σ .image); name = name; line = line }) σ)
-      | false ↦ stop 47 line
-    ]
+abbrev pub writeBytes : ℕ → Write → List ℕ
+writeBytes p (bytes bs) = bs
+writeBytes p (gap r) = replicate (placeAfter p r - p) 0
+writeBytes p (addressOf name) = replicate 4 0
+
+-- the one place where the data grow: "42 data above 65,536 bytes or the lent length"
+unfoldable pub growData : Room → Write → List ℕ → Result ℕ (List ℕ)
+growData k w bs =
+    elim (leb (length bs + writeSize (length bs) w) (k .bytes)) [ true ↦ value (bs ++ writeBytes (length bs) w) | false ↦ refused 42 ]
+
+-- "47 label words above 1,024": the label word that a write makes, if it makes one
+unfoldable pub addLabelWord : ℕ → ℕ → Write → List LabelWord → Result ℕ (List LabelWord)
+addLabelWord line p (bytes bs) ws = value ws
+addLabelWord line p (gap r) ws = value ws
+addLabelWord line p (addressOf name) ws =
+    elim (ltb (length ws) labelWordLimit) [ true ↦ value (ws ++ record { at = p; name = name; line = line } ∷ []) | false ↦ refused 47 ]
 
 -- "in data for each operand in turn its own check, then 42, then 47"
-unfoldable pub dataWrite : Lent → ℕ → Write → State → Move
-dataWrite k line (stores bs) σ = addData k line (length bs) (append bs) σ
-dataWrite k line (zeros n) σ = addData k line n (λ τ. append (replicate n 0) τ) σ
-dataWrite k line (aligns n) σ =
-    addData k line (aligned n (length (σ .image)) - length (σ .image)) (λ τ. append (replicate (aligned n (length (τ .image)) - length (τ .image)) 0) τ) σ
-dataWrite k line (addressOf name) σ = addData k line 4 (addLabelWord line name) σ
-dataWrite k line (wrong n) σ = stop n line
+unfoldable pub dataWrite : Room → ℕ → Write → Stored → Result ℕ Stored
+dataWrite k line w σ =
+    andThen (growData k w (σ .bytes)) (λ bs.
+    mapped (λ ws. record { bytes = bs; labelWords = ws }) (addLabelWord line (length (σ .bytes)) w (σ .labelWords)))
 
-unfoldable pub dataLine : Lent → ℕ → List Write → State → Move
-dataLine k line [] σ = go σ
-dataLine k line (w ∷ ws) σ = andThen (dataWrite k line w σ) (dataLine k line ws)
+unfoldable pub dataLine : Room → ℕ → List (Result ℕ Write) → Stored → Result ℕ Stored
+dataLine k line [] σ = value σ
+dataLine k line (r ∷ rs) σ = andThen r (λ w. andThen (dataWrite k line w σ) (dataLine k line rs))
+
+-- ---- bss
 
 -- "43 bss above 1,048,576"
-unfoldable pub growBss : ℕ → ℕ → State → Move
-growBss line n σ = elim (leb n bssLimit) [ true ↦ go (withBss n σ) | false ↦ stop 43 line ]
+unfoldable pub growBss : ℕ → Result ℕ ℕ
+growBss n = elim (leb n bssLimit) [ true ↦ value n | false ↦ refused 43 ]
 
--- "in bss the operand's check, then 43"; nothing is stored there
-unfoldable pub bssLine : ℕ → Write → State → Move
-bssLine line (stores bs) σ = stop 12 line
-bssLine line (zeros n) σ = growBss line (σ .bss + n) σ
-bssLine line (aligns n) σ = growBss line (aligned n (σ .bss)) σ
-bssLine line (addressOf name) σ = stop 12 line
-bssLine line (wrong n) σ = stop n line
+-- "in bss the operand's check, then 43"
+unfoldable pub bssLine : Result ℕ Reservation → ℕ → Result ℕ ℕ
+bssLine r p = andThen r (λ x. growBss (placeAfter p x))
+
+-- ---- a line
+
+-- the state with a part anew
+abbrev pub inSection : Section → Own → Own
+inSection s σ = record { section = s; items = σ .items; stored = σ .stored; bss = σ .bss }
+
+abbrev pub withItems : Own → Items → Own
+withItems σ x = record { section = σ .section; items = x; stored = σ .stored; bss = σ .bss }
+
+abbrev pub withStored : Own → Stored → Own
+withStored σ x = record { section = σ .section; items = σ .items; stored = x; bss = σ .bss }
+
+abbrev pub withBss : Own → ℕ → Own
+withBss σ x = record { section = σ .section; items = σ .items; stored = σ .stored; bss = x }
+
+abbrev pub withEquates : Rest → List Equate → Rest
+withEquates σ x = record { equates = x; own = σ .own }
+
+abbrev pub withOwn : Rest → Own → Rest
+withOwn σ x = record { equates = σ .equates; own = x }
+
+abbrev pub withRest : List Label → Rest → State
+withRest ls x = record { labels = ls; rest = x }
 
 -- "then the section's own rule"
-abbrev pub ownLine : Lent → ℕ → Piece → Section → State → Move
-ownLine k line p section.Text σ = textLine k line p (itemOf (p .bytes)) σ
-ownLine k line p section.Data σ = dataLine k line (dataWrites (p .bytes)) σ
-ownLine k line p section.Bss σ = bssLine line (bssWrite (p .bytes)) σ
+unfoldable pub ownLine : Room → ℕ → OwnStatement → Own → Result ℕ Own
+ownLine k line (item p) σ = mapped (withItems σ) (textLine k line p (itemOf (p .bytes)) (σ .items))
+ownLine k line (stores x p) σ = mapped (withStored σ) (dataLine k line (storeWrites x (p .bytes)) (σ .stored))
+ownLine k line (reserves x p) σ = mapped (withStored σ) (dataLine k line (mapped gap (reservation x (immOf (p .bytes))) ∷ []) (σ .stored))
+ownLine k line (reservesBss x p) σ = mapped (withBss σ) (bssLine (reservation x (immOf (p .bytes))) (σ .bss))
 
-unfoldable pub says : Lent → ℕ → Statement → State → Move
-says k line say.nothing σ = go σ
-says k line (say.enters s) σ = go (inSection s σ)
-says k line (say.equate name expression) σ = addEquate k line name expression σ
-says k line (say.own p) σ = ownLine k line p (σ .section) σ
-says k line (say.refused n) σ = stop n line
+-- what a statement does
+unfoldable pub says : Room → ℕ → Statement → Rest → Result ℕ Rest
+says k line nothing σ = value σ
+says k line (enters s) σ = value (withOwn σ (inSection s (σ .own)))
+says k line (equate name expr) σ =
+    mapped (withEquates σ) (addEquate k (record { name = name; expr = expr; place = here (σ .own); line = line }) (σ .equates))
+says k line (own s) σ = mapped (withOwn σ) (ownLine k line s (σ .own))
 
--- "a label's 45 first", then what the statement says
-unfoldable pub stepStatement : Lent → ℕ → Piece → State → Move
-stepStatement k line q σ = andThen (addLabel k line (lineOf q .label) σ) (says k line (lineOf q .says))
+-- "a label's 45 first", then what the line says
+unfoldable pub stepParsed : Room → ℕ → Line → State → Result ℕ State
+stepParsed k line l σ =
+    andThen (labelStep k (here (σ .rest .own)) line (l .label) (σ .labels)) (λ ls.
+    mapped (withRest ls) (andThen (l .says) (λ s. says k line s (σ .rest))))
 
-abbrev pub stepLine : Lent → ℕ → Piece → State → Move
-stepLine k line p σ = stepStatement k line (statementOf p) σ
+-- a line as it stands in the text, read in the section that the layout is in
+abbrev pub stepLine : Room → ℕ → Piece → State → Result ℕ State
+stepLine k line p σ = stepParsed k line (lineOf (σ .rest .own .section) p) σ
 
 -- "then lines in order"
-unfoldable pub lineStage : Lent → ℕ → List Piece → State → Move
-lineStage k line [] σ = go σ
-lineStage k line (p ∷ ps) σ = andThen (stepLine k line p σ) (lineStage k (suc line) ps)
+unfoldable pub lineStage : Room → ℕ → List Piece → State → Result Refusal State
+lineStage k line [] σ = value σ
+lineStage k line (p ∷ ps) σ = andThen (atLine line (stepLine k line p σ)) (lineStage k (suc line) ps)

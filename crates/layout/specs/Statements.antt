@@ -1,32 +1,44 @@
--- What a line says before its section's own rule: sections, labels, `.globl`, ignored directives and equates. Document 01, "Lines to places".
-use Prim.Native.Nat.{ℕ, suc}
+-- What a line says, read in a section: its label; a section, a symbol, an ignored directive, an equate, or what the section's own rule
+-- takes. Document 01, "Lines to places".
+use Prim.Native.Nat.{ℕ}
 use mathlib.Core.List.{List, [], _∷_}
 use mathlib.Core.Bool.{Bool, true, false, cond, not, _&&_, _||_}
 use mathlib.Core.Option.{Option, none, some}
 use lib.Dec.{eqb}
 use lib.ListN.{length, take, drop}
+use Rattle.numbers.specs.Results.{Result, value, refused}
 use Rattle.numbers.specs.Text.{text, byte, isSpace, trimmed, startsWith, same, oneSpaced}
-use Rattle.layout.specs.declared.line.Section.{Section}
-use Rattle.layout.specs.declared.line.Section.the-variants as section
-use Rattle.layout.specs.Pieces.{Piece, piece, trimPiece, fromByte, holds, pieceBefore, pieceAfter, isEmpty}
+use Rattle.layout.specs.declared.state.Section.{Section}
+use Rattle.layout.specs.declared.state.Section.the-variants as section
+use Rattle.layout.specs.declared.directives.Reserve.{Reserve}
+use Rattle.layout.specs.declared.directives.Store.{Store}
+use Rattle.layout.specs.declared.directives.Directive.{Directive}
+use Rattle.layout.specs.declared.directives.Directive.the-variants as directive
+use Rattle.layout.specs.Bytes.{isOneOf, countBefore}
+use Rattle.layout.specs.Directives.{Row, directives, rowIn}
+use Rattle.layout.specs.Pieces.{Piece, piece, trimPiece, fromByte, holds, pieceBefore, pieceAfter, isEmpty, statementOf}
 
--- does s begin with one of these?
-unfoldable pub startsWithAny : List (List ℕ) → List ℕ → Bool
-startsWithAny [] s = false
-startsWithAny (p ∷ ps) s = startsWith p s || startsWithAny ps s
-
--- how many bytes stand before the first one that meets a test
-unfoldable pub countBefore : (ℕ → Bool) → List ℕ → ℕ
-countBefore test [] = 0
-countBefore test (x ∷ xs) = cond (test x) 0 (suc (countBefore test xs))
-
--- an expression as it is evaluated: "an `.equ` or `.set` parted at a blank first has whitespace runs made one space"
-pub record Expression : Type 0 where
+-- an equate's expression: where it stands, and whether its white space is read in runs
+pub record Expr : Type 0 where
   pub source : Piece
   pub oneSpace : Bool
 
-abbrev pub expressionText : Expression → List ℕ
-expressionText e = cond (e .oneSpace) (oneSpaced (e .source .bytes)) (e .source .bytes)
+abbrev pub asWritten : Piece → Expr
+asWritten p = record { source = p; oneSpace = false }
+
+-- "an `.equ` or `.set` parted at a blank first has whitespace runs made one space"
+abbrev pub withOneSpace : Piece → Expr
+withOneSpace p = record { source = p; oneSpace = true }
+
+abbrev pub exprText : Expr → List ℕ
+exprText e = cond (e .oneSpace) (oneSpaced (e .source .bytes)) (e .source .bytes)
+
+-- what the section's own rule takes: a line of the text section; in data what is stored, or zeros; in bss zeros
+pub data OwnStatement : Type 0 where
+  item : Piece → OwnStatement
+  stores : Store → Piece → OwnStatement
+  reserves : Reserve → Piece → OwnStatement
+  reservesBss : Reserve → Piece → OwnStatement
 
 -- what a statement says
 pub data Statement : Type 0 where
@@ -35,23 +47,16 @@ pub data Statement : Type 0 where
   -- another section from here on
   enters : Section → Statement
   -- a name and its expression
-  equate : Piece → Expression → Statement
+  equate : Piece → Expr → Statement
   -- what the section's own rule takes
-  own : Piece → Statement
-  -- a refusal by its number
-  refused : ℕ → Statement
-
--- is s one of these?
-abbrev pub isOneOf : List (List ℕ) → List ℕ → Bool
-isOneOf [] s = false
-isOneOf (n ∷ ns) s = same n s || isOneOf ns s
+  own : OwnStatement → Statement
 
 -- a section's name without its dot: "`text`; `data`, `rodata`, `sdata` and `srodata` are data; `bss` and `sbss` are bss"
-unfoldable pub sectionNamed : List ℕ → Statement
+unfoldable pub sectionNamed : List ℕ → Result ℕ Statement
 sectionNamed n =
-    cond (isOneOf (text "text" ∷ []) n) (enters section.Text)
-    (cond (isOneOf (text "data" ∷ text "rodata" ∷ text "sdata" ∷ text "srodata" ∷ []) n) (enters section.Data)
-    (cond (isOneOf (text "bss" ∷ text "sbss" ∷ []) n) (enters section.Bss)
+    cond (isOneOf (text "text" ∷ []) n) (value (enters section.Text))
+    (cond (isOneOf (text "data" ∷ text "rodata" ∷ text "sdata" ∷ text "srodata" ∷ []) n) (value (enters section.Data))
+    (cond (isOneOf (text "bss" ∷ text "sbss" ∷ []) n) (value (enters section.Bss))
     (refused 3)))
 
 abbrev pub withoutDot : List ℕ → List ℕ
@@ -59,10 +64,10 @@ withoutDot [] = []
 withoutDot (x ∷ xs) = cond (eqb x (byte ".")) xs (x ∷ xs)
 
 -- "each with or without a leading dot. `.note.GNU-stack` changes nothing"; 2 where the name is missing, 3 where it is unknown
-unfoldable pub sectionOf : List ℕ → Statement
+unfoldable pub sectionOf : List ℕ → Result ℕ Statement
 sectionOf n =
     cond (eqb (length n) 0) (refused 2)
-    (cond (same n (text ".note.GNU-stack")) nothing
+    (cond (same n (text ".note.GNU-stack")) (value nothing)
     (sectionNamed (withoutDot n)))
 
 -- "A section's name ends at a blank or comma"
@@ -76,62 +81,87 @@ sectionName s = take (countBefore endsSectionName s) s
 abbrev pub isSectionLine : List ℕ → Bool
 isSectionLine s = isOneOf (text ".text" ∷ text ".data" ∷ text ".bss" ∷ []) s || startsWith (text ".section") s
 
-unfoldable pub sectionLine : List ℕ → Statement
+unfoldable pub sectionLine : List ℕ → Result ℕ Statement
 sectionLine s = cond (startsWith (text ".section") s) (sectionOf (sectionName (trimmed (drop 8 s)))) (sectionOf s)
 
 -- "4 no symbol after `.globl`/`.global`"
-abbrev pub globals : List (List ℕ)
-globals = text ".globl" ∷ text ".global" ∷ []
-
-unfoldable pub symbolAfter : List ℕ → Statement
-symbolAfter rest = cond (eqb (length (trimmed rest)) 0) (refused 4) nothing
-
-unfoldable pub globalOf : List ℕ → Statement
-globalOf s = symbolAfter (drop (cond (startsWith (text ".globl") s) 6 7) s)
-
--- "Ignored"
-abbrev pub ignored : List (List ℕ)
-ignored = text ".type" ∷ text ".size" ∷ text ".file" ∷ text ".ident" ∷ text ".option" ∷ text ".attribute" ∷ text ".cfi_" ∷ []
+unfoldable pub symbolAfter : List ℕ → Result ℕ Statement
+symbolAfter rest = cond (eqb (length (trimmed rest)) 0) (refused 4) (value nothing)
 
 -- "5 `.equ`/`.set` without name or expression"
-unfoldable pub equateOf : Piece → Piece → Bool → Statement
-equateOf name source oneSpace = cond (isEmpty name || isEmpty source) (refused 5) (equate name (record { source = source; oneSpace = oneSpace }))
+unfoldable pub equateOf : Piece → Expr → Result ℕ Statement
+equateOf name expr = cond (isEmpty name || isEmpty (expr .source)) (refused 5) (value (equate name expr))
 
 -- "`.equ` and `.set` part at the first comma, else at the first blank"
-unfoldable pub equOf : Piece → Statement
+unfoldable pub equOf : Piece → Result ℕ Statement
 equOf p =
     cond (holds (byte ",") p)
-    (equateOf (trimPiece (pieceBefore (byte ",") p)) (trimPiece (pieceAfter (byte ",") p)) false)
-    (equateOf (piece (p .at) (take (countBefore isSpace (p .bytes)) (p .bytes))) (trimPiece (fromByte (countBefore isSpace (p .bytes)) p)) true)
+    (equateOf (trimPiece (pieceBefore (byte ",") p)) (asWritten (trimPiece (pieceAfter (byte ",") p))))
+    (equateOf (piece (p .at) (take (countBefore isSpace (p .bytes)) (p .bytes)))
+    (withOneSpace (trimPiece (fromByte (countBefore isSpace (p .bytes)) p))))
 
 -- "`name = expr` doesn't begin with a dot and has neither side empty; otherwise the line isn't an equate"
-unfoldable pub assignmentOf : Piece → Statement
-assignmentOf p =
-    cond (not (startsWith (text ".") (p .bytes)) && holds (byte "=") p && not (isEmpty (trimPiece (pieceBefore (byte "=") p))) && not (isEmpty (trimPiece (pieceAfter (byte "=") p))))
-    (equateOf (trimPiece (pieceBefore (byte "=") p)) (trimPiece (pieceAfter (byte "=") p)) false)
-    (own p)
+abbrev pub isAssignment : Piece → Bool
+isAssignment p =
+    not (startsWith (text ".") (p .bytes)) && holds (byte "=") p
+    && not (isEmpty (trimPiece (pieceBefore (byte "=") p))) && not (isEmpty (trimPiece (pieceAfter (byte "=") p)))
 
--- "Then `.globl`, ignored directives, `.equ`/`.set`, `name = expr`, then the section's own rule"
-unfoldable pub unlabelledOf : Piece → Statement
-unlabelledOf p =
-    cond (isEmpty p) nothing
-    (cond (startsWithAny globals (p .bytes)) (globalOf (p .bytes))
-    (cond (startsWithAny ignored (p .bytes)) nothing
-    (cond (startsWithAny (text ".equ" ∷ text ".set" ∷ []) (p .bytes)) (equOf (trimPiece (fromByte 4 p)))
-    (assignmentOf p))))
+-- "then the section's own rule", for what is neither a directive nor an equate: "10 unknown data directive. 11 unknown bss directive"
+abbrev pub otherIn : Section → Piece → Result ℕ Statement
+otherIn section.Text p = value (own (item p))
+otherIn section.Data p = refused 10
+otherIn section.Bss p = refused 11
+
+unfoldable pub assignmentOf : Section → Piece → Result ℕ Statement
+assignmentOf s p =
+    cond (isAssignment p)
+    (equateOf (trimPiece (pieceBefore (byte "=") p)) (asWritten (trimPiece (pieceAfter (byte "=") p))))
+    (otherIn s p)
+
+-- "then the section's own rule", for a directive and what follows its name: in text any line is an item; `.skip` is unknown in data;
+-- "12 stored data in bss"
+abbrev pub reservesIn : Section → Bool → Reserve → Piece → Piece → Result ℕ Statement
+reservesIn section.Text inData x p rest = value (own (item p))
+reservesIn section.Data inData x p rest = cond inData (value (own (reserves x rest))) (refused 10)
+reservesIn section.Bss inData x p rest = value (own (reservesBss x rest))
+
+abbrev pub storesIn : Section → Store → Piece → Piece → Result ℕ Statement
+storesIn section.Text x p rest = value (own (item p))
+storesIn section.Data x p rest = value (own (stores x rest))
+storesIn section.Bss x p rest = refused 12
+
+abbrev pub directiveIn : Section → Directive → Bool → Piece → Piece → Result ℕ Statement
+directiveIn s directive.Symbol inData p rest = symbolAfter (rest .bytes)
+directiveIn s directive.Ignored inData p rest = value nothing
+directiveIn s directive.Equate inData p rest = equOf (trimPiece rest)
+directiveIn s (directive.Reserves x) inData p rest = reservesIn s inData x p rest
+directiveIn s (directive.Stores x) inData p rest = storesIn s x p rest
+
+abbrev pub onRow : Option Row → Section → Piece → Result ℕ Statement
+onRow none s p = assignmentOf s p
+onRow (some r) s p = directiveIn s (r .directive) (r .inData) p (fromByte (length (r .name)) p)
+
+-- "Then `.globl`, ignored directives, `.equ`/`.set`, `name = expr`, then the section's own rule"; no directive is an equate, since it
+-- begins with a dot
+unfoldable pub unlabelledOf : Section → Piece → Result ℕ Statement
+unlabelledOf s p = cond (isEmpty p) (value nothing) (onRow (rowIn directives (p .bytes)) s p)
 
 -- a line's label, if it has one, and what follows it
 pub record Line : Type 0 where
   pub label : Option Piece
-  pub says : Statement
+  pub says : Result ℕ Statement
 
 -- "Otherwise text before the first `:` is a label, possibly empty"; an empty name starts at its colon
-unfoldable pub labelled : Piece → Line
-labelled p =
+unfoldable pub labelled : Section → Piece → Line
+labelled s p =
     cond (holds (byte ":") p)
-    (record { label = some (trimPiece (pieceBefore (byte ":") p)); says = unlabelledOf (trimPiece (pieceAfter (byte ":") p)) })
-    (record { label = none; says = unlabelledOf p })
+    (record { label = some (trimPiece (pieceBefore (byte ":") p)); says = unlabelledOf s (trimPiece (pieceAfter (byte ":") p)) })
+    (record { label = none; says = unlabelledOf s p })
 
--- the line whose statement is p
-unfoldable pub lineOf : Piece → Line
-lineOf p = cond (isSectionLine (p .bytes)) (record { label = none; says = sectionLine (p .bytes) }) (labelled p)
+-- the line whose statement is p, in a section
+unfoldable pub parsed : Section → Piece → Line
+parsed s p = cond (isSectionLine (p .bytes)) (record { label = none; says = sectionLine (p .bytes) }) (labelled s p)
+
+-- a line as it stands in the text, in a section: its label and what it says
+abbrev pub lineOf : Section → Piece → Line
+lineOf s l = parsed s (statementOf l)

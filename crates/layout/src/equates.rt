@@ -1,68 +1,55 @@
 // Equates: the record, pending until a round finds its value, and its expression.
-use crate::limits::EQUATE_LIMIT;
-use crate::limits::EQUATE_SIZE;
-use crate::limits::EXPRESSION_SIZE;
+use crate::limits::Room;
 use crate::line::EquateParts;
-use crate::records::put_four;
-use crate::records::put_six;
-use crate::stage::Counters;
-use crate::stage::Step;
-use crate::stage::place_code;
+use crate::records::EquateRecord;
+use crate::records::ExprRecord;
+use crate::records::put_equate;
+use crate::records::put_expr;
+use crate::state::Count;
+use crate::state::Place;
 ghost use mathlib.Core.Path.{_≡_};
-ghost use mathlib.Core.List.{List};
-ghost use Prim.Native.Nat.{ℕ, _<_};
-ghost use lib.ListN.{length};
 ghost use Rattle.layout.specs.Stage.{addEquate};
-ghost use Rattle.layout.specs.Spans.{pieceAt};
-ghost use Rattle.layout.specs.Tables.{flagOf};
-ghost use Rattle.layout.specs.Stands.{Bounded, store, Steps, SpanWithin, expressionRoom, LineIn};
-
-fn flag(b: bool) -> u32
-    ensures { λ r. ⌜ r ≡ flagOf b ⌝ }
-{
-    if b {
-        return 1;
-    }
-    0
-}
+ghost use Rattle.layout.specs.code.Steps.{Some, Steps};
+ghost use Rattle.layout.specs.code.Spans.{SpanWithin, LineIn, equateAt};
+ghost use Rattle.layout.specs.code.Places.{PlaceFits};
+ghost use Rattle.layout.specs.code.Stands.{EquatesStand, equateStore, countOf};
 
 // An equate's record and its expression's. The contract alone names the text, which the parts are of.
 pub fn add_equate(
     text: &[u8],
     equates: &mut [u8],
-    expressions: &mut [u8],
-    st: Counters,
+    exprs: &mut [u8],
+    room: Room,
+    count: usize,
+    place: Place,
     line: u32,
     parts: EquateParts,
-) -> Step
-    requires { ⌜ Bounded st × (length (now expressions) ≡ expressionRoom) × LineIn (now text) line × SpanWithin (now text) (parts .name) × SpanWithin (now text) (parts .source) ⌝ }
-    ensures { λ r. ⌜ ((room : ℕ) (l i m f : List ℕ) → Steps (now (text .entry)) room line st (store l (now (equates .entry)) (now (expressions .entry)) i m f) (store l (now (equates .exit)) (now (expressions .exit)) i m f) r (λ k σ. addEquate k line (pieceAt (now (text .entry)) (parts .name)) (record { source = pieceAt (now (text .entry)) (parts .source); oneSpace = parts .spaced }) σ)) ⌝ }
+) -> Count
+    requires { ⌜ Some (EquatesStand (now text) room count (equateStore (now equates) (now exprs))) × PlaceFits place
+        × LineIn (now text) line × SpanWithin (now text) (parts .name) × SpanWithin (now text) (parts .expr) ⌝ }
+    ensures { λ r. ⌜ Steps (EquatesStand (now (text .entry)) room) count (equateStore (now (equates .entry)) (now (exprs .entry)))
+        (countOf r) (equateStore (now (equates .exit)) (now (exprs .exit)))
+        (addEquate room (equateAt (now (text .entry)) place line parts)) ⌝ }
 {
-    let count = st.equates;
-    if !((count < EQUATE_LIMIT) & (count < equates.len() / EQUATE_SIZE)) {
-        return Step::Stop(46);
+    if room.equates <= count {
+        return Count::Stop(46);
     }
     let name = parts.name;
-    let source = parts.source;
-    put_six(
-        equates,
-        count * EQUATE_SIZE,
-        name.start as u32,
-        name.len as u32,
+    let expr = parts.expr;
+    let equate = EquateRecord {
+        start: name.start as u32,
+        len: name.len as u32,
         line,
-        0,
-        0,
-        0,
-    );
-    put_four(
-        expressions,
-        count * EXPRESSION_SIZE,
-        source.start as u32,
-        source.len as u32,
-        flag(parts.spaced),
-        place_code(st),
-    );
-    let mut next = st;
-    next.equates = count + 1;
-    Step::Go(next)
+        value: 0,
+        round: 0,
+    };
+    put_equate(equates, count, equate);
+    let source = ExprRecord {
+        start: expr.start as u32,
+        len: expr.len as u32,
+        one_space: parts.one_space,
+        place: place.code(),
+    };
+    put_expr(exprs, count, source);
+    Count::Now(count + 1)
 }

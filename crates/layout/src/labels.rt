@@ -1,93 +1,114 @@
 // Labels, by name: the last definition of a name wins.
-use crate::limits::LABEL_LIMIT;
-use crate::limits::LABEL_SIZE;
-use crate::records::get_u32;
-use crate::records::put_four;
-use crate::stage::Counters;
-use crate::stage::Step;
-use crate::stage::place_code;
+use crate::limits::Room;
+use crate::line::LabelPart;
+use crate::records::LabelRecord;
+use crate::records::get_label;
+use crate::records::put_label;
+use crate::state::Count;
+use crate::state::Place;
 use numbers::text::Span;
 use numbers::text::same_bytes;
 use numbers::text::span_bytes;
 ghost use mathlib.Core.Path.{_≡_};
-ghost use mathlib.Core.List.{List, [], _∷_};
-ghost use mathlib.Core.Option.{some};
-ghost use Prim.Native.Nat.{ℕ, _+_, _*_, _≤_, _<_};
+ghost use Prim.Native.Nat.{_+_, _*_, _≤_};
 ghost use lib.ListN.{length};
-ghost use Rattle.numbers.specs.Text.{same, spanned};
-ghost use Rattle.layout.specs.Stage.{Label, addLabel};
-ghost use Rattle.layout.specs.Addresses.{put};
-ghost use Rattle.layout.specs.Spans.{pieceAt};
-ghost use Rattle.layout.specs.Tables.{fieldBytes};
-ghost use Rattle.layout.specs.Stands.{Bounded, store, Steps, SpanWithin, nameAt, LabelTable, labelFound, FoundBelow, LineIn};
+ghost use Rattle.numbers.specs.Text.{same};
+ghost use Rattle.layout.specs.Limits.{labelSize};
+ghost use Rattle.layout.specs.Stage.{addLabel, labelStep};
+ghost use Rattle.layout.specs.code.Steps.{Some, Steps};
+ghost use Rattle.layout.specs.code.Spans.{SpanWithin, LabelWithin, LineIn, pieceAt, labelPartAt};
+ghost use Rattle.layout.specs.code.Places.{PlaceFits};
+ghost use Rattle.layout.specs.code.Tables.{labelNameAt, labelNames, lookupIn, lookupOf, LookupBelow};
+ghost use Rattle.layout.specs.code.Stands.{LabelsStand, countOf};
 
 // Where a label's record stands among the others, or nowhere.
-pub enum Found {
+pub enum Lookup {
     At(usize),
     Nothing,
 }
 
 // Has the kth record this name?
 fn is_named(text: &[u8], labels: &[u8], k: usize, name: &[u8]) -> bool
-    requires { ⌜ k * 16 + 16 ≤ length (now labels) ⌝ }
-    ensures { λ r. ⌜ r ≡ same (spanned (now (text .entry)) (nameAt (now (labels .entry)) (k * 16))) (now (name .entry)) ⌝ }
+    requires { ⌜ k * labelSize + labelSize ≤ length (now labels) ⌝ }
+    ensures { λ r. ⌜ r ≡ same (labelNameAt (now (text .entry)) (now (labels .entry)) k) (now (name .entry)) ⌝ }
 {
-    let at = k * LABEL_SIZE;
-    let start = get_u32(labels, at) as usize;
-    let len = get_u32(labels, at + 4) as usize;
-    same_bytes(span_bytes(text, Span { start, len }), name)
+    let label = get_label(labels, k);
+    let place = Span {
+        start: label.start as usize,
+        len: label.len as usize,
+    };
+    same_bytes(span_bytes(text, place), name)
 }
 
 // The first of so many records that has this name.
-pub fn find_label(text: &[u8], labels: &[u8], count: usize, name: &[u8]) -> Found
-    requires { ⌜ (count * 16 ≤ length (now labels)) × (length (now text) ≤ 65536) ⌝ }
-    ensures { λ r. ⌜ FoundBelow count r × ((ls : List Label) → LabelTable (now (text .entry)) (now (labels .entry)) count ls → r ≡ labelFound 0 (now (name .entry)) ls) ⌝ }
+pub fn find_label(text: &[u8], labels: &[u8], count: usize, name: &[u8]) -> Lookup
+    requires { ⌜ count * labelSize ≤ length (now labels) ⌝ }
+    ensures { λ r. ⌜ (lookupOf r ≡ lookupIn (now (name .entry)) 0 (labelNames (now (text .entry)) (now (labels .entry)) 0 count))
+        × LookupBelow count r ⌝ }
 {
     let mut k = 0;
     while k < count {
         if is_named(text, labels, k, name) {
-            return Found::At(k);
+            return Lookup::At(k);
         }
         k += 1;
     }
-    Found::Nothing
+    Lookup::Nothing
 }
 
-// The kth record.
-fn put_label(labels: &mut [u8], k: usize, name: Span, place: u32, line: u32)
-    requires { ⌜ (k * 16 + 16 ≤ length (now labels)) × (name .start ≤ 65536) × (name .len ≤ 65536) ⌝ }
-    ensures { λ _. ⌜ now (labels .exit) ≡ put (k * 16) (fieldBytes (name .start ∷ name .len ∷ place ∷ line ∷ [])) (now (labels .entry)) ⌝ }
+// A label, with its place for its address.
+fn add_label(
+    text: &[u8],
+    labels: &mut [u8],
+    room: Room,
+    count: usize,
+    place: Place,
+    line: u32,
+    name: Span,
+) -> Count
+    requires { ⌜ Some (LabelsStand (now text) room count (now labels)) × PlaceFits place × LineIn (now text) line
+        × SpanWithin (now text) name ⌝ }
+    ensures { λ r. ⌜ Steps (LabelsStand (now (text .entry)) room) count (now (labels .entry)) (countOf r) (now (labels .exit))
+        (addLabel room (record { name = pieceAt (now (text .entry)) name; place = place; line = line })) ⌝ }
 {
-    put_four(
-        labels,
-        k * LABEL_SIZE,
-        name.start as u32,
-        name.len as u32,
-        place,
+    let label = LabelRecord {
+        start: name.start as u32,
+        len: name.len as u32,
+        address: place.code(),
         line,
-    );
+    };
+    match find_label(text, labels, count, span_bytes(text, name)) {
+        Lookup::At(k) => {
+            put_label(labels, k, label);
+            Count::Now(count)
+        }
+        Lookup::Nothing => {
+            if room.labels <= count {
+                return Count::Stop(45);
+            }
+            put_label(labels, count, label);
+            Count::Now(count + 1)
+        }
+    }
 }
 
-// A label at the place where the layout is.
-pub fn add_label(text: &[u8], labels: &mut [u8], st: Counters, line: u32, name: Span) -> Step
-    requires { ⌜ Bounded st × (st .labels * 16 ≤ length (now labels)) × LineIn (now text) line × SpanWithin (now text) name ⌝ }
-    ensures { λ r. ⌜ ((room : ℕ) (e x i m f : List ℕ) → Steps (now (text .entry)) room line st (store (now (labels .entry)) e x i m f) (store (now (labels .exit)) e x i m f) r (λ k σ. addLabel k line (some (pieceAt (now (text .entry)) name)) σ)) ⌝ }
+// A line's label, if it has one.
+pub fn label_step(
+    text: &[u8],
+    labels: &mut [u8],
+    room: Room,
+    count: usize,
+    place: Place,
+    line: u32,
+    label: LabelPart,
+) -> Count
+    requires { ⌜ Some (LabelsStand (now text) room count (now labels)) × PlaceFits place × LineIn (now text) line
+        × LabelWithin (now text) label ⌝ }
+    ensures { λ r. ⌜ Steps (LabelsStand (now (text .entry)) room) count (now (labels .entry)) (countOf r) (now (labels .exit))
+        (labelStep room place line (labelPartAt (now (text .entry)) label)) ⌝ }
 {
-    let count = st.labels;
-    let place = place_code(st);
-    match find_label(text, labels, count, span_bytes(text, name)) {
-        Found::At(k) => {
-            put_label(labels, k, name, place, line);
-            Step::Go(st)
-        }
-        Found::Nothing => {
-            if !((count < LABEL_LIMIT) & (count < labels.len() / LABEL_SIZE)) {
-                return Step::Stop(45);
-            }
-            put_label(labels, count, name, place, line);
-            let mut next = st;
-            next.labels = count + 1;
-            Step::Go(next)
-        }
+    match label {
+        LabelPart::Named(name) => add_label(text, labels, room, count, place, line, name),
+        LabelPart::Unnamed => Count::Now(count),
     }
 }

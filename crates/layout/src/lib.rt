@@ -1,11 +1,15 @@
 // The layout: from a source to words, data, labels, equates and items.
-pub mod directives;
-pub mod equates;
-pub mod items;
+mod bss;
+mod data;
+mod directives;
+mod equates;
+mod items;
 pub mod labels;
 pub mod limits;
-pub mod line;
-pub mod parts;
+mod line;
+mod pieces;
+mod pseudo;
 pub mod records;
 pub mod stage;
-pub mod writers;
+pub mod state;
+mod writers;

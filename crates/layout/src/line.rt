@@ -1,8 +1,18 @@
-// What a line says before its section's own rule: sections, labels, `.globl`, ignored directives and equates.
-use crate::parts::part_to;
-use crate::parts::trim_from;
-use crate::parts::trim_to;
-use crate::parts::word_len;
+// What a line says, read in a section: its label; a section, a symbol, an ignored directive, an equate, or what the
+// section's own rule takes.
+use crate::directives::Directive;
+use crate::directives::Reserve;
+use crate::directives::Spelled;
+use crate::directives::Spelling;
+use crate::directives::Store;
+use crate::directives::directive_of;
+use crate::pieces::part_from;
+use crate::pieces::part_to;
+use crate::pieces::statement_part;
+use crate::pieces::trim_from;
+use crate::pieces::trim_to;
+use crate::pieces::word_len;
+use crate::state::Section;
 use numbers::text::Span;
 use numbers::text::find;
 use numbers::text::first_is;
@@ -12,40 +22,30 @@ use numbers::text::span_bytes;
 use numbers::text::starts_with;
 use numbers::text::trim;
 ghost use mathlib.Core.Path.{_≡_};
-ghost use mathlib.Core.Bool.{true};
-ghost use mathlib.Core.List.{[], _∷_};
-ghost use Rattle.numbers.specs.Text.{text, byte, startsWith, spanned};
-ghost use Rattle.layout.specs.Pieces.{Piece};
-ghost use Rattle.layout.specs.Statements.{startsWithAny, countBefore, endsSectionName, sectionNamed, sectionOf, isSectionLine, sectionLine};
-ghost use Rattle.layout.specs.Statements.{globals, symbolAfter, globalOf, ignored};
-ghost use Rattle.layout.specs.Statements.{equateOf, equOf, assignmentOf, unlabelledOf, lineOf};
-ghost use Rattle.layout.specs.Spans.{spanOf, pieceAt, statementCode, lineCode};
-
-pub enum Section {
-    Text,
-    Data,
-    Bss,
-}
-
-// The nine pseudo-instructions, in the order of their item kinds 1 to 9.
-pub enum Pseudo {
-    Li,
-    La,
-    Push,
-    Pop,
-    Print,
-    PrintStr,
-    Read,
-    ReadByte,
-    Random,
-}
+ghost use Prim.Native.Nat.{_≤_};
+ghost use lib.ListN.{length};
+ghost use Rattle.numbers.specs.code.Spans.{spanned};
+ghost use Rattle.layout.specs.Bytes.{countBefore};
+ghost use Rattle.layout.specs.Pieces.{Piece, fromByte};
+ghost use Rattle.layout.specs.Statements.{endsSectionName, sectionNamed, sectionOf, isSectionLine, sectionLine, symbolAfter};
+ghost use Rattle.layout.specs.Statements.{equateOf, equOf, otherIn, assignmentOf, reservesIn, storesIn, directiveIn};
+ghost use Rattle.layout.specs.Statements.{unlabelledOf, parsed, lineOf};
+ghost use Rattle.layout.specs.code.Spans.{spanOf, pieceAt, lineAt, statementCode, lineCode};
 
 // An equate's name and expression; the expression of an `.equ` or `.set` parted at a blank is read with each run of
 // white space as one space.
 pub struct EquateParts {
     pub name: Span,
-    pub source: Span,
-    pub spaced: bool,
+    pub expr: Span,
+    pub one_space: bool,
+}
+
+// What the section's own rule takes: a line of the text section; in data what is stored, or zeros; in bss zeros.
+pub enum OwnStatement {
+    Item(Span),
+    Stores(Store, Span),
+    Reserves(Reserve, Span),
+    ReservesBss(Reserve, Span),
 }
 
 // What a statement says: nothing, another section, an equate, what the section's own rule takes, or a refusal.
@@ -53,7 +53,7 @@ pub enum Statement {
     Nothing,
     Enters(Section),
     Equate(EquateParts),
-    Own(Span),
+    Own(OwnStatement),
     Refused(u8),
 }
 
@@ -145,35 +145,17 @@ fn symbol(rest: &[u8]) -> Statement
     Statement::Nothing
 }
 
-fn global(s: &[u8]) -> Statement
-    requires { ⌜ startsWithAny globals (now s) ≡ true ⌝ }
-    ensures { λ r. ⌜ r ≡ statementCode (globalOf (now (s .entry))) ⌝ }
+fn equate_of(name: Span, expr: Span, one_space: bool) -> Statement
+    ensures { λ r. ⌜ ((n p : Piece) → name ≡ spanOf n → expr ≡ spanOf p →
+        r ≡ statementCode (equateOf n (record { source = p; oneSpace = «one_space» }))) ⌝ }
 {
-    if starts_with(s, b".globl") {
-        return symbol(&s[6..]);
-    }
-    symbol(&s[7..])
-}
-
-fn is_ignored(s: &[u8]) -> bool
-    ensures { λ r. ⌜ r ≡ startsWithAny ignored (now (s .entry)) ⌝ }
-{
-    let about_symbols = starts_with(s, b".type") | starts_with(s, b".size");
-    let about_files = starts_with(s, b".file") | starts_with(s, b".ident");
-    let about_targets = starts_with(s, b".option") | starts_with(s, b".attribute");
-    about_symbols | (about_files | (about_targets | starts_with(s, b".cfi_")))
-}
-
-fn equate_of(name: Span, source: Span, spaced: bool) -> Statement
-    ensures { λ r. ⌜ ((n e : Piece) → name ≡ spanOf n → source ≡ spanOf e → r ≡ statementCode (equateOf n e spaced)) ⌝ }
-{
-    if (name.len == 0) | (source.len == 0) {
+    if (name.len == 0) | (expr.len == 0) {
         return Statement::Refused(5);
     }
     Statement::Equate(EquateParts {
         name,
-        source,
-        spaced,
+        expr,
+        one_space,
     })
 }
 
@@ -185,70 +167,113 @@ fn equ_of(text: &[u8], part: Span) -> Statement
     let comma = find(bytes, b',');
     if comma < bytes.len() {
         let name = trim_to(text, part, comma);
-        let source = trim_from(text, part, comma + 1);
-        return equate_of(name, source, false);
+        let expr = trim_from(text, part, comma + 1);
+        return equate_of(name, expr, false);
     }
     let blank = word_len(bytes);
-    let source = trim_from(text, part, blank);
-    equate_of(part_to(text, part, blank), source, true)
+    let expr = trim_from(text, part, blank);
+    equate_of(part_to(text, part, blank), expr, true)
+}
+
+// What is neither a directive nor an equate.
+fn other_in(section: Section, part: Span) -> Statement
+    ensures { λ r. ⌜ ((p : Piece) → part ≡ spanOf p → r ≡ statementCode (otherIn section p)) ⌝ }
+{
+    match section {
+        Section::Text => Statement::Own(OwnStatement::Item(part)),
+        Section::Data => Statement::Refused(10),
+        Section::Bss => Statement::Refused(11),
+    }
 }
 
 // `name = expr`, or what the section's own rule takes.
-fn assignment(text: &[u8], part: Span) -> Statement
-    ensures { λ r. ⌜ r ≡ statementCode (assignmentOf (pieceAt (now (text .entry)) part)) ⌝ }
+fn assignment(text: &[u8], section: Section, part: Span) -> Statement
+    ensures { λ r. ⌜ r ≡ statementCode (assignmentOf section (pieceAt (now (text .entry)) part)) ⌝ }
 {
     let bytes = span_bytes(text, part);
     let whole = part_to(text, part, bytes.len());
     if first_is(bytes, b'.') {
-        return Statement::Own(whole);
+        return other_in(section, whole);
     }
     let sign = find(bytes, b'=');
     if bytes.len() <= sign {
-        return Statement::Own(whole);
+        return other_in(section, whole);
     }
     let name = trim_to(text, part, sign);
-    let source = trim_from(text, part, sign + 1);
-    if (name.len == 0) | (source.len == 0) {
-        return Statement::Own(whole);
+    let expr = trim_from(text, part, sign + 1);
+    if (name.len == 0) | (expr.len == 0) {
+        return other_in(section, whole);
     }
-    equate_of(name, source, false)
+    equate_of(name, expr, false)
 }
 
-// A statement that begins with a dot.
-fn directive(text: &[u8], part: Span) -> Statement
-    requires { ⌜ startsWith (byte "." ∷ []) (spanned (now text) part) ≡ true ⌝ }
-    ensures { λ r. ⌜ r ≡ statementCode (unlabelledOf (pieceAt (now (text .entry)) part)) ⌝ }
+fn reserves_in(section: Section, in_data: bool, what: Reserve, part: Span, rest: Span) -> Statement
+    ensures { λ r. ⌜ ((p q : Piece) → part ≡ spanOf p → rest ≡ spanOf q →
+        r ≡ statementCode (reservesIn section «in_data» what p q)) ⌝ }
+{
+    match section {
+        Section::Text => Statement::Own(OwnStatement::Item(part)),
+        Section::Data => {
+            if !in_data {
+                return Statement::Refused(10);
+            }
+            Statement::Own(OwnStatement::Reserves(what, rest))
+        }
+        Section::Bss => Statement::Own(OwnStatement::ReservesBss(what, rest)),
+    }
+}
+
+fn stores_in(section: Section, what: Store, part: Span, rest: Span) -> Statement
+    ensures { λ r. ⌜ ((p q : Piece) → part ≡ spanOf p → rest ≡ spanOf q →
+        r ≡ statementCode (storesIn section what p q)) ⌝ }
+{
+    match section {
+        Section::Text => Statement::Own(OwnStatement::Item(part)),
+        Section::Data => Statement::Own(OwnStatement::Stores(what, rest)),
+        Section::Bss => Statement::Refused(12),
+    }
+}
+
+// A directive of the table, whose name has so many bytes.
+fn directive_in(text: &[u8], section: Section, part: Span, spelling: Spelling) -> Statement
+    requires { ⌜ spelling .len ≤ length (spanned (now text) part) ⌝ }
+    ensures { λ r. ⌜ r ≡ statementCode (directiveIn section (spelling .directive) (spelling .«in_data»)
+        (pieceAt (now (text .entry)) part) (fromByte (spelling .len) (pieceAt (now (text .entry)) part))) ⌝ }
 {
     let bytes = span_bytes(text, part);
-    if starts_with(bytes, b".globl") | starts_with(bytes, b".global") {
-        return global(bytes);
+    let n = spelling.len;
+    let whole = part_to(text, part, bytes.len());
+    let rest = part_from(text, part, n);
+    let directive = spelling.directive;
+    match directive {
+        Directive::Symbol => symbol(&bytes[n..]),
+        Directive::Ignored => Statement::Nothing,
+        Directive::Equate => equ_of(text, trim_from(text, part, n)),
+        Directive::Reserves(what) => reserves_in(section, spelling.in_data, what, whole, rest),
+        Directive::Stores(what) => stores_in(section, what, whole, rest),
     }
-    if is_ignored(bytes) {
-        return Statement::Nothing;
-    }
-    if starts_with(bytes, b".equ") | starts_with(bytes, b".set") {
-        return equ_of(text, trim_from(text, part, 4));
-    }
-    assignment(text, part)
 }
 
-// A statement after its label.
-fn unlabelled(text: &[u8], part: Span) -> Statement
-    ensures { λ r. ⌜ r ≡ statementCode (unlabelledOf (pieceAt (now (text .entry)) part)) ⌝ }
+// A statement after its label. Only what begins with a dot can be a directive.
+fn unlabelled(text: &[u8], section: Section, part: Span) -> Statement
+    ensures { λ r. ⌜ r ≡ statementCode (unlabelledOf section (pieceAt (now (text .entry)) part)) ⌝ }
 {
     let bytes = span_bytes(text, part);
     if bytes.len() == 0 {
         return Statement::Nothing;
     }
-    if first_is(bytes, b'.') {
-        return directive(text, part);
+    if !first_is(bytes, b'.') {
+        return assignment(text, section, part);
     }
-    assignment(text, part)
+    let Spelled::As(spelling) = directive_of(bytes) else {
+        return assignment(text, section, part);
+    };
+    directive_in(text, section, part, spelling)
 }
 
 // The line whose statement stands at a part of the text.
-pub fn line_of(text: &[u8], part: Span) -> Line
-    ensures { λ r. ⌜ r ≡ lineCode (lineOf (pieceAt (now (text .entry)) part)) ⌝ }
+fn parsed(text: &[u8], section: Section, part: Span) -> Line
+    ensures { λ r. ⌜ r ≡ lineCode (parsed section (pieceAt (now (text .entry)) part)) ⌝ }
 {
     let bytes = span_bytes(text, part);
     if is_section_line(bytes) {
@@ -261,13 +286,21 @@ pub fn line_of(text: &[u8], part: Span) -> Line
     if bytes.len() <= colon {
         return Line {
             label: LabelPart::Unnamed,
-            says: unlabelled(text, part),
+            says: unlabelled(text, section, part),
         };
     }
     let name = trim_to(text, part, colon);
     let rest = trim_from(text, part, colon + 1);
     Line {
         label: LabelPart::Named(name),
-        says: unlabelled(text, rest),
+        says: unlabelled(text, section, rest),
     }
+}
+
+// The line that stands from one place to another, read in a section: its label and what it says.
+pub fn line_of(text: &[u8], section: Section, at: usize, end: usize) -> Line
+    requires { ⌜ (at ≤ end) × (end ≤ length (now text)) ⌝ }
+    ensures { λ r. ⌜ r ≡ lineCode (lineOf section (lineAt (now (text .entry)) at end)) ⌝ }
+{
+    parsed(text, section, statement_part(text, at, end))
 }

@@ -1,43 +1,37 @@
 // The line stage: labels, equates, items, data and bss, line by line.
-use crate::directives::bss_line;
-use crate::directives::data_line;
+use crate::bss::bss_line;
+use crate::data::reserve_line;
+use crate::data::store_line;
 use crate::equates::add_equate;
 use crate::items::text_line;
-use crate::labels::add_label;
-use crate::line::LabelPart;
-use crate::line::Section;
+use crate::labels::label_step;
+use crate::limits::Room;
+use crate::line::OwnStatement;
 use crate::line::Statement;
 use crate::line::line_of;
-use crate::parts::line_end;
-use crate::parts::statement_part;
-use numbers::text::Span;
+use crate::pieces::line_end;
+use crate::state::Count;
+use crate::state::Counters;
+use crate::state::DataStep;
+use crate::state::ItemStep;
+use crate::state::OwnCounters;
+use crate::state::OwnStep;
+use crate::state::RestCounters;
+use crate::state::RestStep;
+use crate::state::Step;
 use numbers::text::span_bytes;
 ghost use mathlib.Core.Path.{_≡_};
-ghost use mathlib.Core.List.{List};
-ghost use Prim.Native.Nat.{ℕ, _*_, _≤_, _<_};
+ghost use Prim.Native.Nat.{_≤_};
 ghost use lib.ListN.{length};
-ghost use Rattle.layout.specs.Stage.{addLabel, ownLine, says, stepStatement};
-ghost use Rattle.layout.specs.Spans.{pieceAt, labelAt, statementAt};
-ghost use Rattle.layout.specs.Tables.{placeCode};
-ghost use Rattle.layout.specs.Stands.{Bounded, store, Steps, Ready, StageGives, Zeros, placeOf, SpanWithin, LabelWithin, StatementWithin, expressionRoom, fixupRoom, LineIn};
-
-// Where the layout is: the section, the words reserved, the bytes of data and of bss, and how many records there are.
-pub struct Counters {
-    pub section: Section,
-    pub words: usize,
-    pub image: usize,
-    pub bss: usize,
-    pub labels: usize,
-    pub equates: usize,
-    pub items: usize,
-    pub fixups: usize,
-}
-
-// What a step comes to: where the layout is after it, or a refusal's number.
-pub enum Step {
-    Go(Counters),
-    Stop(u8),
-}
+ghost use Rattle.numbers.specs.Results.{andThen};
+ghost use Rattle.layout.specs.Limits.{textLimit};
+ghost use Rattle.layout.specs.Pieces.{lines, linePieces};
+ghost use Rattle.layout.specs.State.{start};
+ghost use Rattle.layout.specs.Stage.{ownLine, says, stepLine, lineStage};
+ghost use Rattle.layout.specs.code.Steps.{Some, Steps};
+ghost use Rattle.layout.specs.code.Spans.{lineAt, ownAt, statementAt, OwnWithin, StatementWithin, LineIn};
+ghost use Rattle.layout.specs.code.Stands.{ownStore, OwnStand, restStore, RestStand, store, Stands};
+ghost use Rattle.layout.specs.code.Stands.{ownOf, restOf, stepOf, startCounters, StageAgrees};
 
 // What the stage comes to: where the layout is at the end, or a refusal's number and line.
 pub enum Stage {
@@ -45,68 +39,87 @@ pub enum Stage {
     Refused(u8, u32),
 }
 
-impl Counters {
-    pub const START: Counters = Counters {
-        section: Section::Text,
-        words: 0,
-        image: 0,
-        bss: 0,
-        labels: 0,
-        equates: 0,
-        items: 0,
-        fixups: 0,
-    };
-
-    // The same counts in another section.
-    fn entered(self, section: Section) -> Counters
-        ensures { λ r. ⌜ r ≡ record { section = section; words = self .words; image = self .image; bss = self .bss; labels = self .labels; equates = self .equates; items = self .items; fixups = self .fixups } ⌝ }
-    {
-        Counters {
-            section,
-            words: self.words,
-            image: self.image,
-            bss: self.bss,
-            labels: self.labels,
-            equates: self.equates,
-            items: self.items,
-            fixups: self.fixups,
-        }
-    }
-}
-
-// The present place, as records keep it until the sections' starts are known: 2^24 times the section's number, and
-// the bytes reserved there.
-pub fn place_code(st: Counters) -> u32
-    requires { ⌜ Bounded st ⌝ }
-    ensures { λ r. ⌜ r ≡ placeCode (placeOf st) ⌝ }
-{
-    let section = st.section;
-    match section {
-        Section::Text => (4 * st.words) as u32,
-        Section::Data => 0x1000000 + st.image as u32,
-        Section::Bss => 0x2000000 + st.bss as u32,
-    }
-}
-
 // The section's own rule.
 fn own_line(
     text: &[u8],
     items: &mut [u8],
-    image: &mut [u8],
-    fixups: &mut [u8],
-    room: usize,
-    st: Counters,
+    data_bytes: &mut [u8],
+    label_words: &mut [u8],
+    room: Room,
+    st: OwnCounters,
     line: u32,
-    part: Span,
-) -> Step
-    requires { ⌜ Bounded st × (length (now fixups) ≡ fixupRoom) × LineIn (now text) line × SpanWithin (now text) part ⌝ }
-    ensures { λ r. ⌜ ((l e x : List ℕ) → Steps (now (text .entry)) room line st (store l e x (now (items .entry)) (now (image .entry)) (now (fixups .entry))) (store l e x (now (items .exit)) (now (image .exit)) (now (fixups .exit))) r (λ k σ. ownLine k line (pieceAt (now (text .entry)) part) (st .section) σ)) ⌝ }
+    statement: OwnStatement,
+) -> OwnStep
+    requires { ⌜ Some (OwnStand (now text) room st (ownStore (now items) (now «data_bytes») (now «label_words»))) × LineIn (now text) line
+        × OwnWithin (now text) statement ⌝ }
+    ensures { λ r. ⌜ Steps (OwnStand (now (text .entry)) room) st
+        (ownStore (now (items .entry)) (now («data_bytes» .entry)) (now («label_words» .entry)))
+        (ownOf r) (ownStore (now (items .exit)) (now («data_bytes» .exit)) (now («label_words» .exit)))
+        (ownLine room line (ownAt (now (text .entry)) statement)) ⌝ }
 {
     let section = st.section;
-    match section {
-        Section::Text => text_line(text, items, room, st, line, part),
-        Section::Data => data_line(text, image, fixups, st, line, part),
-        Section::Bss => bss_line(st, span_bytes(text, part)),
+    let counted = st.items;
+    let stored = st.stored;
+    let bss = st.bss;
+    match statement {
+        OwnStatement::Item(source) => match text_line(text, items, room, counted, line, source) {
+            ItemStep::Now(items) => OwnStep::Now(OwnCounters {
+                section,
+                items,
+                stored,
+                bss,
+            }),
+            ItemStep::Stop(n) => OwnStep::Stop(n),
+        },
+        OwnStatement::Stores(what, rest) => {
+            match store_line(
+                text,
+                data_bytes,
+                label_words,
+                room,
+                stored,
+                line,
+                what,
+                rest,
+            ) {
+                DataStep::Now(stored) => OwnStep::Now(OwnCounters {
+                    section,
+                    items: counted,
+                    stored,
+                    bss,
+                }),
+                DataStep::Stop(n) => OwnStep::Stop(n),
+            }
+        }
+        OwnStatement::Reserves(what, rest) => {
+            match reserve_line(
+                text,
+                data_bytes,
+                label_words,
+                room,
+                stored,
+                line,
+                what,
+                rest,
+            ) {
+                DataStep::Now(stored) => OwnStep::Now(OwnCounters {
+                    section,
+                    items: counted,
+                    stored,
+                    bss,
+                }),
+                DataStep::Stop(n) => OwnStep::Stop(n),
+            }
+        }
+        OwnStatement::ReservesBss(what, rest) => match bss_line(bss, what, span_bytes(text, rest)) {
+            Count::Now(bss) => OwnStep::Now(OwnCounters {
+                section,
+                items: counted,
+                stored,
+                bss,
+            }),
+            Count::Stop(n) => OwnStep::Stop(n),
+        },
     }
 }
 
@@ -114,109 +127,153 @@ fn own_line(
 fn says(
     text: &[u8],
     equates: &mut [u8],
-    expressions: &mut [u8],
+    exprs: &mut [u8],
     items: &mut [u8],
-    image: &mut [u8],
-    fixups: &mut [u8],
-    room: usize,
-    st: Counters,
+    data_bytes: &mut [u8],
+    label_words: &mut [u8],
+    room: Room,
+    st: RestCounters,
     line: u32,
     statement: Statement,
-) -> Step
-    requires { ⌜ Bounded st × (length (now expressions) ≡ expressionRoom) × (length (now fixups) ≡ fixupRoom) × LineIn (now text) line × StatementWithin (now text) statement ⌝ }
-    ensures { λ r. ⌜ ((l : List ℕ) → Steps (now (text .entry)) room line st (store l (now (equates .entry)) (now (expressions .entry)) (now (items .entry)) (now (image .entry)) (now (fixups .entry))) (store l (now (equates .exit)) (now (expressions .exit)) (now (items .exit)) (now (image .exit)) (now (fixups .exit))) r (λ k σ. says k line (statementAt (now (text .entry)) statement) σ)) ⌝ }
+) -> RestStep
+    requires { ⌜ Some (RestStand (now text) room st
+        (restStore (now equates) (now exprs) (now items) (now «data_bytes») (now «label_words»)))
+        × LineIn (now text) line × StatementWithin (now text) statement ⌝ }
+    ensures { λ r. ⌜ Steps (RestStand (now (text .entry)) room) st
+        (restStore (now (equates .entry)) (now (exprs .entry)) (now (items .entry)) (now («data_bytes» .entry))
+        (now («label_words» .entry)))
+        (restOf r)
+        (restStore (now (equates .exit)) (now (exprs .exit)) (now (items .exit)) (now («data_bytes» .exit))
+        (now («label_words» .exit)))
+        (λ σ. andThen (statementAt (now (text .entry)) statement) (λ s. says room line s σ)) ⌝ }
 {
+    let count = st.equates;
+    let own = st.own;
     match statement {
-        Statement::Nothing => Step::Go(st),
-        Statement::Enters(section) => Step::Go(st.entered(section)),
-        Statement::Equate(parts) => add_equate(text, equates, expressions, st, line, parts),
-        Statement::Own(part) => own_line(text, items, image, fixups, room, st, line, part),
-        Statement::Refused(n) => Step::Stop(n),
+        Statement::Nothing => RestStep::Now(st),
+        Statement::Enters(section) => RestStep::Now(RestCounters {
+            equates: count,
+            own: own.entered(section),
+        }),
+        Statement::Equate(parts) => {
+            match add_equate(text, equates, exprs, room, count, own.place(), line, parts) {
+                Count::Now(equates) => RestStep::Now(RestCounters { equates, own }),
+                Count::Stop(n) => RestStep::Stop(n),
+            }
+        }
+        Statement::Own(own_statement) => match own_line(
+            text,
+            items,
+            data_bytes,
+            label_words,
+            room,
+            own,
+            line,
+            own_statement,
+        ) {
+            OwnStep::Now(own) => RestStep::Now(RestCounters {
+                equates: count,
+                own,
+            }),
+            OwnStep::Stop(n) => RestStep::Stop(n),
+        },
+        Statement::Refused(n) => RestStep::Stop(n),
     }
 }
 
-// A line's label, if it has one: before what the line says.
-fn label_step(text: &[u8], labels: &mut [u8], st: Counters, line: u32, label: LabelPart) -> Step
-    requires { ⌜ Bounded st × (st .labels * 16 ≤ length (now labels)) × LineIn (now text) line × LabelWithin (now text) label ⌝ }
-    ensures { λ r. ⌜ ((room : ℕ) (e x i m f : List ℕ) → Steps (now (text .entry)) room line st (store (now (labels .entry)) e x i m f) (store (now (labels .exit)) e x i m f) r (λ k σ. addLabel k line (labelAt (now (text .entry)) label) σ)) ⌝ }
-{
-    match label {
-        LabelPart::Named(name) => add_label(text, labels, st, line, name),
-        LabelPart::Unnamed => Step::Go(st),
-    }
-}
-
-// One line, by its statement.
+// The line that stands from one place to another: its label first.
 fn step_line(
     text: &[u8],
+    at: usize,
+    end: usize,
     labels: &mut [u8],
     equates: &mut [u8],
-    expressions: &mut [u8],
+    exprs: &mut [u8],
     items: &mut [u8],
-    image: &mut [u8],
-    fixups: &mut [u8],
-    room: usize,
+    data_bytes: &mut [u8],
+    label_words: &mut [u8],
+    room: Room,
     st: Counters,
     line: u32,
-    part: Span,
 ) -> Step
-    requires { ⌜ Ready (now text) room st (store (now labels) (now equates) (now expressions) (now items) (now image) (now fixups)) × (st .labels * 16 ≤ length (now labels)) × (length (now expressions) ≡ expressionRoom) × (length (now fixups) ≡ fixupRoom) × LineIn (now text) line × SpanWithin (now text) part ⌝ }
-    ensures { λ r. ⌜ Steps (now (text .entry)) room line st (store (now (labels .entry)) (now (equates .entry)) (now (expressions .entry)) (now (items .entry)) (now (image .entry)) (now (fixups .entry))) (store (now (labels .exit)) (now (equates .exit)) (now (expressions .exit)) (now (items .exit)) (now (image .exit)) (now (fixups .exit))) r (λ k σ. stepStatement k line (pieceAt (now (text .entry)) part) σ) ⌝ }
+    requires { ⌜ Some (Stands (now text) room st
+        (store (now labels) (now equates) (now exprs) (now items) (now «data_bytes») (now «label_words»)))
+        × LineIn (now text) line × (at ≤ end) × (end ≤ length (now text)) ⌝ }
+    ensures { λ r. ⌜ Steps (Stands (now (text .entry)) room) st
+        (store (now (labels .entry)) (now (equates .entry)) (now (exprs .entry)) (now (items .entry)) (now («data_bytes» .entry))
+        (now («label_words» .entry)))
+        (stepOf r)
+        (store (now (labels .exit)) (now (equates .exit)) (now (exprs .exit)) (now (items .exit)) (now («data_bytes» .exit))
+        (now («label_words» .exit)))
+        (stepLine room line (lineAt (now (text .entry)) at end)) ⌝ }
 {
-    let parsed = line_of(text, part);
+    let rest = st.rest;
+    let own = rest.own;
+    let section = own.section;
+    let parsed = line_of(text, section, at, end);
     let label = parsed.label;
     let statement = parsed.says;
-    match label_step(text, labels, st, line, label) {
-        Step::Go(labelled) => says(
+    match label_step(text, labels, room, st.labels, own.place(), line, label) {
+        Count::Now(count) => match says(
             text,
             equates,
-            expressions,
+            exprs,
             items,
-            image,
-            fixups,
+            data_bytes,
+            label_words,
             room,
-            labelled,
+            rest,
             line,
             statement,
-        ),
-        Step::Stop(n) => Step::Stop(n),
+        ) {
+            RestStep::Now(rest) => Step::Now(Counters {
+                labels: count,
+                rest,
+            }),
+            RestStep::Stop(n) => Step::Stop(n),
+        },
+        Count::Stop(n) => Step::Stop(n),
     }
 }
 
-// Every line of the text, into buffers of zeros; room is how many words are lent.
+// Every line of the text, into buffers of zeros.
 pub fn line_stage(
     text: &[u8],
-    room: usize,
     labels: &mut [u8],
     equates: &mut [u8],
-    expressions: &mut [u8],
+    exprs: &mut [u8],
     items: &mut [u8],
-    image: &mut [u8],
-    fixups: &mut [u8],
+    data_bytes: &mut [u8],
+    label_words: &mut [u8],
+    room: Room,
 ) -> Stage
-    requires { ⌜ (length (now text) ≤ 65536) × (length (now expressions) ≡ expressionRoom) × (length (now fixups) ≡ fixupRoom) × Zeros (now labels) × Zeros (now equates) × Zeros (now expressions) × Zeros (now items) × Zeros (now image) × Zeros (now fixups) ⌝ }
-    ensures { λ r. ⌜ StageGives (now (text .entry)) room (store (now (labels .entry)) (now (equates .entry)) (now (expressions .entry)) (now (items .entry)) (now (image .entry)) (now (fixups .entry))) (store (now (labels .exit)) (now (equates .exit)) (now (expressions .exit)) (now (items .exit)) (now (image .exit)) (now (fixups .exit))) r ⌝ }
+    requires { ⌜ (length (now text) ≤ textLimit) × Stands (now text) room startCounters
+        (store (now labels) (now equates) (now exprs) (now items) (now «data_bytes») (now «label_words»)) start ⌝ }
+    ensures { λ r. ⌜ StageAgrees (now (text .entry)) room
+        (store (now (labels .exit)) (now (equates .exit)) (now (exprs .exit)) (now (items .exit)) (now («data_bytes» .exit))
+        (now («label_words» .exit)))
+        r (lineStage room 0 (linePieces 0 (lines (now (text .entry)))) start) ⌝ }
 {
     let mut st = Counters::START;
     let mut at = 0;
     let mut line: u32 = 0;
     while at < text.len() {
         let end = line_end(text, at);
-        let part = statement_part(text, at, end);
         match step_line(
             text,
+            at,
+            end,
             labels,
             equates,
-            expressions,
+            exprs,
             items,
-            image,
-            fixups,
+            data_bytes,
+            label_words,
             room,
             st,
             line,
-            part,
         ) {
-            Step::Go(next) => {
+            Step::Now(next) => {
                 st = next;
             }
             Step::Stop(n) => {

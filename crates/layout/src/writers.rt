@@ -3,7 +3,7 @@ ghost use mathlib.Core.Path.{_≡_};
 ghost use mathlib.Core.List.{_++_};
 ghost use Prim.Native.Nat.{_≤_};
 ghost use lib.ListN.{length, drop, replicate};
-ghost use Rattle.layout.specs.Directives.{le};
+ghost use Rattle.layout.specs.Bytes.{le};
 
 // The width low bytes of v, the lowest first.
 pub fn put_number(dst: &mut [u8], width: usize, v: u64)

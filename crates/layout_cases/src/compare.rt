@@ -8,9 +8,13 @@ use crate::listed::is_number;
 use crate::listed::number;
 use crate::places::Starts;
 use crate::records::is_zeros;
-use layout::stage::Counters;
+use layout::limits::BSS_LIMIT;
+use layout::limits::DATA_LIMIT;
+use layout::limits::Room;
+use layout::limits::TEXT_LIMIT;
 use layout::stage::Stage;
 use layout::stage::line_stage;
+use layout::state::Counters;
 use numbers::text::same_bytes;
 use replay::field::after_field;
 use replay::field::decode;
@@ -47,41 +51,53 @@ fn laid_agrees(
     text: &[u8],
     labels: &[u8],
     items: &[u8],
-    image: &mut [u8],
-    fixups: &[u8],
+    data_bytes: &mut [u8],
+    label_words: &[u8],
     base: u32,
     st: Counters,
     fields: &[u8],
 ) -> bool {
-    let size = st.image;
-    let bss = st.bss;
-    if 65536 < size {
+    let rest = st.rest;
+    let own = rest.own;
+    let stored = own.stored;
+    let counted = own.items;
+    let size = stored.bytes;
+    let bss = own.bss;
+    if DATA_LIMIT < size {
         return false;
     }
-    if 1048576 < bss {
+    if BSS_LIMIT < bss {
         return false;
     }
-    if image.len() < size {
+    if data_bytes.len() < size {
         return false;
     }
     let starts = Starts::of(base, size as u32);
-    if !fill_all(text, labels, st.labels, starts, image, fixups, st.fixups) {
+    if !fill_all(
+        text,
+        labels,
+        st.labels,
+        starts,
+        data_bytes,
+        label_words,
+        stored.label_words,
+    ) {
         return false;
     }
     let sizes = after_field(fields);
     let names = after_field(after_field(after_field(sizes)));
-    sizes_agree(&image[..size], starts.data, bss as u32, sizes)
-        & is_zeros(&image[size..])
+    sizes_agree(&data_bytes[..size], starts.data, bss as u32, sizes)
+        & is_zeros(&data_bytes[size..])
         & labels_agree(text, labels, st.labels, starts, field(names))
-        & items_agree(items, st.items, base, after_field(names))
+        & items_agree(items, counted.items, base, after_field(names))
 }
 
 fn through_agrees(
     text: &[u8],
     labels: &[u8],
     items: &[u8],
-    image: &mut [u8],
-    fixups: &[u8],
+    data_bytes: &mut [u8],
+    label_words: &[u8],
     base: u32,
     st: Counters,
     answer: &[u8],
@@ -91,34 +107,53 @@ fn through_agrees(
         return is_later(field(fields));
     }
     if same_bytes(field(answer), b"ok") {
-        return laid_agrees(text, labels, items, image, fixups, base, st, fields);
+        return laid_agrees(
+            text,
+            labels,
+            items,
+            data_bytes,
+            label_words,
+            base,
+            st,
+            fields,
+        );
     }
     false
 }
 
 // The stage is lent buffers of every limit's full size. A longer text does not come to it.
 fn source_agrees(text: &[u8], base: u32, answer: &[u8]) -> bool {
-    if 65536 < text.len() {
+    if TEXT_LIMIT < text.len() {
         return false;
     }
     let mut labels = [0u8; 16384];
     let mut equates = [0u8; 6144];
-    let mut expressions = [0u8; 4096];
+    let mut exprs = [0u8; 4096];
     let mut items = [0u8; 49152];
-    let mut image = [0u8; 65536];
-    let mut fixups = [0u8; 16384];
+    let mut data_bytes = [0u8; 65536];
+    let mut label_words = [0u8; 16384];
+    let room = Room::of(16384, 65536, 16384, 6144, 49152);
     match line_stage(
         text,
-        16384,
         &mut labels,
         &mut equates,
-        &mut expressions,
+        &mut exprs,
         &mut items,
-        &mut image,
-        &mut fixups,
+        &mut data_bytes,
+        &mut label_words,
+        room,
     ) {
         Stage::Through(st) => {
-            through_agrees(text, &labels, &items, &mut image, &fixups, base, st, answer)
+            through_agrees(
+                text,
+                &labels,
+                &items,
+                &mut data_bytes,
+                &label_words,
+                base,
+                st,
+                answer,
+            )
         }
         Stage::Refused(n, line) => refusal_agrees(n, line, answer),
     }

@@ -5,8 +5,12 @@ use crate::listed::next_part;
 use crate::listed::part_at;
 use crate::places::Starts;
 use crate::records::word_at;
-use layout::labels::Found;
+use layout::labels::Lookup;
 use layout::labels::find_label;
+use layout::limits::LABEL_SIZE;
+use layout::limits::LABEL_WORD_SIZE;
+use layout::records::get_label;
+use layout::records::get_label_word;
 use layout::records::put_u32;
 use numbers::text::Span;
 use numbers::text::span_bytes;
@@ -22,20 +26,17 @@ enum Label {
 
 // The label of that name among so many.
 fn label_named(text: &[u8], labels: &[u8], count: usize, name: &[u8]) -> Label {
-    if 65536 < text.len() {
+    if labels.len() / LABEL_SIZE < count {
         return Label::Nothing;
     }
-    if labels.len() / 16 < count {
-        return Label::Nothing;
-    }
-    let Found::At(k) = find_label(text, labels, count, name) else {
+    let Lookup::At(k) = find_label(text, labels, count, name) else {
         return Label::Nothing;
     };
-    if labels.len() / 16 <= k {
+    if labels.len() / LABEL_SIZE <= k {
         return Label::Nothing;
     }
-    let at = k * 16;
-    Label::At(word_at(labels, at + 8), word_at(labels, at + 12))
+    let label = get_label(labels, k);
+    Label::At(label.address, label.line)
 }
 
 // A label of the list: its name, its address and its line.
@@ -74,50 +75,52 @@ fn fill(
     labels: &[u8],
     count: usize,
     starts: Starts,
-    image: &mut [u8],
+    data_bytes: &mut [u8],
     at: usize,
     name: Span,
 ) -> bool {
     let Label::At(place, _) = label_named(text, labels, count, span_bytes(text, name)) else {
         return false;
     };
-    if image.len() < 4 {
+    if data_bytes.len() < 4 {
         return false;
     }
-    if image.len() - 4 < at {
+    if data_bytes.len() - 4 < at {
         return false;
     }
-    if word_at(image, at) != 0 {
+    if word_at(data_bytes, at) != 0 {
         return false;
     }
-    put_u32(image, at, starts.address(place));
+    put_u32(data_bytes, at, starts.address(place));
     true
 }
 
-// The label word whose record stands at a place of the buffer.
+// The kth label word.
 fn fill_one(
     text: &[u8],
     labels: &[u8],
     count: usize,
     starts: Starts,
-    image: &mut [u8],
-    fixups: &[u8],
-    at: usize,
+    data_bytes: &mut [u8],
+    label_words: &[u8],
+    k: usize,
 ) -> bool {
-    if fixups.len() <= at {
+    if label_words.len() / LABEL_WORD_SIZE <= k {
         return false;
     }
-    let place = word_at(fixups, at) as usize;
-    let start = word_at(fixups, at + 4) as usize;
-    let len = word_at(fixups, at + 8) as usize;
+    let word = get_label_word(label_words, k);
+    let name = Span {
+        start: word.start as usize,
+        len: word.len as usize,
+    };
     fill(
         text,
         labels,
         count,
         starts,
-        image,
-        place,
-        Span { start, len },
+        data_bytes,
+        word.at as usize,
+        name,
     )
 }
 
@@ -127,16 +130,16 @@ pub fn fill_all(
     labels: &[u8],
     count: usize,
     starts: Starts,
-    image: &mut [u8],
-    fixups: &[u8],
+    data_bytes: &mut [u8],
+    label_words: &[u8],
     words: usize,
 ) -> bool {
-    if fixups.len() / 16 < words {
+    if label_words.len() / LABEL_WORD_SIZE < words {
         return false;
     }
     let mut k = 0;
     while k < words {
-        if !fill_one(text, labels, count, starts, image, fixups, k * 16) {
+        if !fill_one(text, labels, count, starts, data_bytes, label_words, k) {
             return false;
         }
         k += 1;

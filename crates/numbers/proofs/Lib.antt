@@ -2,6 +2,7 @@ pub mod Bools
 pub mod Trims
 pub mod Places
 pub mod Prefixes
+pub mod Rows
 pub mod Spaced
 pub mod Parts
 pub mod Integers
@@ -12,3 +13,4 @@ pub mod Readings
 pub mod SpacedNumbers
 pub mod NumberCases
 pub mod RegisterCases
+pub mod RowCases

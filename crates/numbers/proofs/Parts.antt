@@ -12,9 +12,12 @@ use lib.Seq.{drop-drop}
 use borrow.Author.Tests.{le-leb, lt-leb, leb-true, leb-false, eqb-true}
 use Rattle.numbers.specs.declared.text.Span.{Span}
 use Rattle.numbers.specs.declared.operands.Operand.the-variants.{At, End}
-use Rattle.numbers.specs.Text.{byte, isSpace, leading, leadingSpaces, trimStart, consTrimmed, trimEnd, trimmed, spanned, trimSpan, indexOf, before}
+use Rattle.numbers.specs.Text.{byte, isSpace, trimStart, consTrimmed, trimEnd, trimmed, indexOf, before}
+use Rattle.numbers.specs.Text.{leading, leadingSpaces}
+use Rattle.numbers.specs.code.Spans.{spanned, trimSpan}
 use Rattle.numbers.specs.Text.{spaceFirst, consSome, oneSpaced}
-use Rattle.numbers.specs.Operands.{consFirst, commaParts, operands, nonEmpty, itemOperands, operandsFrom, itemOperandsFrom, operandAt, isBlank, leadingBlanks, itemOperandHere, itemOperandAt}
+use Rattle.numbers.specs.Operands.{consFirst, commaParts, operands, nonEmpty, itemOperands}
+use Rattle.numbers.specs.code.Cursors.{operandsFrom, itemOperandsFrom, operandAt, isSeparator, leadingSeparators, itemOperandHere, itemOperandAt}
 use Rattle.numbers.proofs.Bools.{or-left, or-right, or-none}
 use Rattle.numbers.proofs.Trims.{trim-span-within, trim-end-within, span-later, front-text, front-end, start-stays}
 use Rattle.numbers.proofs.Spaced.{spaced-some, trimmed-spaced}
@@ -23,7 +26,7 @@ use Rattle.numbers.proofs.Places.{index-within, before-length}
 -- past the end there is no operand
 pub item-past : (s : List ℕ) (at : ℕ) → length s < at → itemOperandAt s at ≡ End
 unfolding itemOperandAt itemOperandHere
-item-past s at h = rw (le-leb (length s) (at + leadingBlanks (drop at s)) (omega arith)) refl
+item-past s at h = rw (le-leb (length s) (at + leadingSeparators (drop at s)) (omega arith)) refl
 
 -- the parts of a text: what stands before the first comma, then the parts after it
 parts-step : (t : List ℕ)
@@ -131,63 +134,63 @@ first-space x [] e = rw e refl
 first-space x (p ∷ ps) e = rw e refl
 
 -- white space or a comma at the start of a text does not change its item operands
-skip-blank : (x : ℕ) (xs : List ℕ) → isBlank x ≡ true → itemOperands (x ∷ xs) ≡ itemOperands xs
+skip-separator : (x : ℕ) (xs : List ℕ) → isSeparator x ≡ true → itemOperands (x ∷ xs) ≡ itemOperands xs
 unfolding itemOperands operands commaParts nonEmpty trimmed trimStart trimEnd
-skip-blank x xs e = go (eqb x (byte ",")) e
+skip-separator x xs e = go (eqb x (byte ",")) e
   where
     go : (c : Bool) → (isSpace x || c) ≡ true → nonEmpty (map trimmed (cond c ([] ∷ commaParts xs) (consFirst x (commaParts xs)))) ≡ nonEmpty (map trimmed (commaParts xs))
     go true k = refl
     go false k = first-space x (commaParts xs) (or-none (isSpace x) k)
 
 -- nor do all the white space and commas at its start
-skip-blanks : (t : List ℕ) → itemOperands (drop (leadingBlanks t) t) ≡ itemOperands t
+skip-separators : (t : List ℕ) → itemOperands (drop (leadingSeparators t) t) ≡ itemOperands t
 unfolding leading
-skip-blanks [] = refl
-skip-blanks (x ∷ xs) = go (isBlank x) refl (skip-blanks xs)
+skip-separators [] = refl
+skip-separators (x ∷ xs) = go (isSeparator x) refl (skip-separators xs)
   where
-    go : (b : Bool) → isBlank x ≡ b → itemOperands (drop (leadingBlanks xs) xs) ≡ itemOperands xs
-        → itemOperands (drop (cond b (suc (leadingBlanks xs)) 0) (x ∷ xs)) ≡ itemOperands (x ∷ xs)
-    go true e h = h ∙ sym (skip-blank x xs e)
+    go : (b : Bool) → isSeparator x ≡ b → itemOperands (drop (leadingSeparators xs) xs) ≡ itemOperands xs
+        → itemOperands (drop (cond b (suc (leadingSeparators xs)) 0) (x ∷ xs)) ≡ itemOperands (x ∷ xs)
+    go true e h = h ∙ sym (skip-separator x xs e)
     go false e h = refl
 
 -- after them stands neither white space nor a comma
-blanks-stop : (t : List ℕ) → leadingBlanks (drop (leadingBlanks t) t) ≡ 0
+separators-stop : (t : List ℕ) → leadingSeparators (drop (leadingSeparators t) t) ≡ 0
 unfolding leading
-blanks-stop [] = refl
-blanks-stop (x ∷ xs) = go (isBlank x) refl (blanks-stop xs)
+separators-stop [] = refl
+separators-stop (x ∷ xs) = go (isSeparator x) refl (separators-stop xs)
   where
-    go : (b : Bool) → isBlank x ≡ b → leadingBlanks (drop (leadingBlanks xs) xs) ≡ 0 → leadingBlanks (drop (cond b (suc (leadingBlanks xs)) 0) (x ∷ xs)) ≡ 0
+    go : (b : Bool) → isSeparator x ≡ b → leadingSeparators (drop (leadingSeparators xs) xs) ≡ 0 → leadingSeparators (drop (cond b (suc (leadingSeparators xs)) 0) (x ∷ xs)) ≡ 0
     go true e h = h
     go false e h = rw e refl
 
--- a text with no blanks at its start begins with another byte
-no-blank : (x : ℕ) (xs : List ℕ) → leadingBlanks (x ∷ xs) ≡ 0 → isBlank x ≡ false
+-- a text with no separators at its start begins with another byte
+no-separator : (x : ℕ) (xs : List ℕ) → leadingSeparators (x ∷ xs) ≡ 0 → isSeparator x ≡ false
 unfolding leading
-no-blank x xs e = go (isBlank x) e
+no-separator x xs e = go (isSeparator x) e
   where
-    go : (b : Bool) → cond b (suc (leadingBlanks xs)) 0 ≡ 0 → b ≡ false
+    go : (b : Bool) → cond b (suc (leadingSeparators xs)) 0 ≡ 0 → b ≡ false
     go true k = absurd (omega arith)
     go false k = refl
 
 -- A text that begins with neither white space nor a comma: its first part, trimmed at its end, is its first operand
-module _ (x : ℕ) (xs : List ℕ) (e : leadingBlanks (x ∷ xs) ≡ 0) where
+module _ (x : ℕ) (xs : List ℕ) (e : leadingSeparators (x ∷ xs) ≡ 0) where
   -- the first part begins with the first byte
   here-part : before (byte ",") (x ∷ xs) ≡ x ∷ before (byte ",") xs
   unfolding before indexOf
-  here-part = rw (or-right (isSpace x) (eqb x (byte ",")) (no-blank x xs e)) refl
+  here-part = rw (or-right (isSpace x) (eqb x (byte ",")) (no-separator x xs e)) refl
 
   -- which is no white space
   here-first : isSpace x ≡ false
-  here-first = or-left (isSpace x) (eqb x (byte ",")) (no-blank x xs e)
+  here-first = or-left (isSpace x) (eqb x (byte ",")) (no-separator x xs e)
 
 -- it is the part trimmed at both ends
-here-trimmed : (t : List ℕ) → leadingBlanks t ≡ 0 → trimmed (before (byte ",") t) ≡ trimEnd (before (byte ",") t)
+here-trimmed : (t : List ℕ) → leadingSeparators t ≡ 0 → trimmed (before (byte ",") t) ≡ trimEnd (before (byte ",") t)
 unfolding trimmed before indexOf trimStart trimEnd
 here-trimmed [] e = refl
 here-trimmed (x ∷ xs) e = rw (here-part x xs e) (ap trimEnd (start-stays (x ∷ before (byte ",") xs) (here-first x xs e)))
 
 -- and is not empty
-here-some : (t : List ℕ) → 0 < length t → leadingBlanks t ≡ 0 → 0 < length (trimEnd (before (byte ",") t))
+here-some : (t : List ℕ) → 0 < length t → leadingSeparators t ≡ 0 → 0 < length (trimEnd (before (byte ",") t))
 unfolding trimEnd
 here-some [] h e = absurd (not-suc-le-zero h)
 here-some (x ∷ xs) h e = rw (here-part x xs e) (go (trimEnd (before (byte ",") xs)))
@@ -222,13 +225,13 @@ items-after t =
     ap nonEmpty (map-cond (leb next (length t)) (commaParts (drop next t))) ∙ items-from t next
 
 -- the item operands of a text that begins with neither white space nor a comma: its first part, then those after its comma
-items-here : (t : List ℕ) → 0 < length t → leadingBlanks t ≡ 0 → itemOperands t ≡ trimEnd (before (byte ",") t) ∷ itemOperands (drop (suc (indexOf (byte ",") t)) t)
+items-here : (t : List ℕ) → 0 < length t → leadingSeparators t ≡ 0 → itemOperands t ≡ trimEnd (before (byte ",") t) ∷ itemOperands (drop (suc (indexOf (byte ",") t)) t)
 unfolding itemOperands operands
 items-here t h e = rw (parts-step t, here-trimmed t e, keep-some (trimEnd (before (byte ",") t)) _ (here-some t h e), items-after t) refl
 
 -- the place of the first item operand from a place on
 abbrev itemStart : List ℕ → ℕ → ℕ
-itemStart s at = at + leadingBlanks (drop at s)
+itemStart s at = at + leadingSeparators (drop at s)
 
 -- the span of the item operand at a place
 abbrev itemSpan : List ℕ → ℕ → Span
@@ -249,7 +252,7 @@ item-found s at p next e = go (leb (length s) i) refl e
 
 -- the item operands from a place on are those from the first operand's place on
 items-skip : (s : List ℕ) (at : ℕ) → itemOperandsFrom s at ≡ itemOperands (drop (itemStart s at) s)
-items-skip s at = items-from s at ∙ sym (skip-blanks (drop at s)) ∙ ap itemOperands (drop-drop (leadingBlanks (drop at s)) at s)
+items-skip s at = items-from s at ∙ sym (skip-separators (drop at s)) ∙ ap itemOperands (drop-drop (leadingSeparators (drop at s)) at s)
 
 -- What stands at the first operand's place.
 module _ (s : List ℕ) (at : ℕ) (h : itemStart s at < length s) where
@@ -257,9 +260,9 @@ module _ (s : List ℕ) (at : ℕ) (h : itemStart s at < length s) where
   start-some : 0 < length (drop (itemStart s at) s)
   start-some = rw (length-drop (itemStart s at) s) (omega arith)
 
-  -- of which the first is no blank
-  start-stops : leadingBlanks (drop (itemStart s at) s) ≡ 0
-  start-stops = rw (drop-drop (leadingBlanks (drop at s)) at s) at (blanks-stop (drop at s))
+  -- of which the first is no separator
+  start-stops : leadingSeparators (drop (itemStart s at) s) ≡ 0
+  start-stops = rw (drop-drop (leadingSeparators (drop at s)) at s) at (separators-stop (drop at s))
 
 -- an item operand found is the first from that place on, and the others come from the next place on
 pub item-step : (s : List ℕ) (at : ℕ) (p : Span) (next : ℕ) → itemOperandAt s at ≡ At p next → itemOperandsFrom s at ≡ spanned s p ∷ itemOperandsFrom s next

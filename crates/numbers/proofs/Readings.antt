@@ -13,7 +13,7 @@ use lib.IntN.{ℤ, pos, negℤ, _+ℤ_, _-ℤ_, -ℤ-+ℤ-cancel}
 use borrow.Author.Tests.{le-leb, leb-true}
 use Rattle.numbers.specs.Text.{text, startsWith, trimmed}
 use Rattle.numbers.specs.Ints.{in64, fit64, isSigned32, isUnsigned32}
-use Rattle.numbers.specs.Numbers.{allDigits, valueFrom, digitsFrom, digitsOf, plus, minus, signedDigits, prefixed, negated, outerSigned, numberOf, literalOf, imm64Of, narrowed, immOf}
+use Rattle.numbers.specs.Numbers.{allDigits, valueFrom, digitsFrom, digitsOf, positiveOf, negativeOf, signedDigits, prefixed, negated, outerSigned, numberOf, literalOf, imm64Of, narrowed, immOf}
 use Rattle.numbers.specs.Literals.{charLitOf}
 use Rattle.numbers.proofs.Bools.{none-some}
 use Rattle.numbers.proofs.Integers.{fits-signed32, upper-fits}
@@ -28,11 +28,11 @@ neg-in64 : (n : ℕ) → n ≤ 2 ^ 63 → in64 (negℤ (pos n)) ≡ true
 neg-in64 zero h = refl
 neg-in64 (suc n) h = rw (le-leb n 9223372036854775807 (omega arith)) refl
 
-plus-in64 : (o : Option ℕ) (z : ℤ) → ((n : ℕ) → o ≡ some n → n ≤ 2 ^ 63 - 1) → plus o ≡ some z → in64 z ≡ true
+plus-in64 : (o : Option ℕ) (z : ℤ) → ((n : ℕ) → o ≡ some n → n ≤ 2 ^ 63 - 1) → positiveOf o ≡ some z → in64 z ≡ true
 plus-in64 none z h e = absurd (none-some e)
 plus-in64 (some n) z h e = let k : pos n ≡ z = cc in rw (← k) (pos-in64 n (h n refl))
 
-minus-in64 : (o : Option ℕ) (z : ℤ) → ((n : ℕ) → o ≡ some n → n ≤ 2 ^ 63) → minus o ≡ some z → in64 z ≡ true
+minus-in64 : (o : Option ℕ) (z : ℤ) → ((n : ℕ) → o ≡ some n → n ≤ 2 ^ 63) → negativeOf o ≡ some z → in64 z ≡ true
 minus-in64 none z h e = absurd (none-some e)
 minus-in64 (some n) z h e = let k : negℤ (pos n) ≡ z = cc in rw (← k) (neg-in64 n (h n refl))
 
@@ -41,7 +41,7 @@ unfolding signedDigits
 signed-in64 base s z e = go (startsWith (text "-") s) (startsWith (text "+") s) e
   where
     go : (t u : Bool)
-        → cond t (minus (digitsOf base (2 ^ 63) (drop 1 s))) (cond u (plus (digitsOf base (2 ^ 63 - 1) (drop 1 s))) (plus (digitsOf base (2 ^ 63 - 1) s))) ≡ some z
+        → cond t (negativeOf (digitsOf base (2 ^ 63) (drop 1 s))) (cond u (positiveOf (digitsOf base (2 ^ 63 - 1) (drop 1 s))) (positiveOf (digitsOf base (2 ^ 63 - 1) s))) ≡ some z
         → in64 z ≡ true
     go true u q = minus-in64 _ z (digits-within base (2 ^ 63) (drop 1 s)) q
     go false true q = plus-in64 _ z (digits-within base (2 ^ 63 - 1) (drop 1 s)) q

@@ -11,10 +11,10 @@ use lib.ListN.{length, drop}
 use lib.IntN.{ℤ, pos}
 use borrow.Author.Tests.{eqb-true, leb-true, ne-eqb, lt-leb, le-ltb}
 use Rattle.numbers.specs.Text.{text, isSpace, trimmed, startsWith, same, spaceFirst, consSome, oneSpaced}
-use Rattle.numbers.specs.Numbers.{digitOf, allDigits, digitsFrom, digitsOf, plus, minus, signedDigits, prefixed, negated, outerSigned, numberOf}
+use Rattle.numbers.specs.Numbers.{digitOf, allDigits, digitsFrom, digitsOf, positiveOf, negativeOf, signedDigits, prefixed, negated, outerSigned, numberOf}
 use Rattle.numbers.specs.Numbers.{literalOf, imm64Of, narrowed, immOf, spacedImmOf}
 use Rattle.numbers.specs.Literals.{escaped, charLitOf}
-use Rattle.numbers.specs.Registers.{Named, abiNames, numberIn, lower, xNumber, bareRegister, registerOf}
+use Rattle.numbers.specs.Registers.{Named, abiNames, numberIn, lowerCase, xNumber, bareRegister, registerOf}
 use Rattle.numbers.proofs.Bools.{or-left, or-right, or-none, and-left, and-right, and-both}
 use Rattle.numbers.proofs.Prefixes.{same-equal}
 use Rattle.numbers.proofs.Values.{none-below}
@@ -123,7 +123,7 @@ unfolding signedDigits hasSpace
 signed-space base s b h = go (startsWith (text "-") s) refl (startsWith (text "+") s) refl
   where
     go : (t : Bool) → startsWith (text "-") s ≡ t → (u : Bool) → startsWith (text "+") s ≡ u
-        → cond t (minus (digitsOf base (2 ^ 63) (drop 1 s))) (cond u (plus (digitsOf base (2 ^ 63 - 1) (drop 1 s))) (plus (digitsOf base (2 ^ 63 - 1) s))) ≡ none
+        → cond t (negativeOf (digitsOf base (2 ^ 63) (drop 1 s))) (cond u (positiveOf (digitsOf base (2 ^ 63 - 1) (drop 1 s))) (positiveOf (digitsOf base (2 ^ 63 - 1) s))) ≡ none
     go true e u f = rw (digits-space base (2 ^ 63) (drop 1 s) b (after-prefix (text "-") s refl e h)) refl
     go false e true f = rw (digits-space base (2 ^ 63 - 1) (drop 1 s) b (after-prefix (text "+") s refl f h)) refl
     go false e false f = rw (digits-space base (2 ^ 63 - 1) s b h) refl
@@ -147,15 +147,15 @@ outer-space s h = go (startsWith (text "-") s) refl (startsWith (text "+") s) re
     go false e true f = prefixed-space (drop 1 s) (after-prefix (text "+") s refl f h)
     go false e false f = prefixed-space s h
 
--- in lower case white space stays
-lower-space : (s : List ℕ) → hasSpace s ≡ true → hasSpace (map lower s) ≡ true
+-- in lowerCase case white space stays
+lower-space : (s : List ℕ) → hasSpace s ≡ true → hasSpace (map lowerCase s) ≡ true
 unfolding hasSpace
 lower-space [] h = h
 lower-space (x ∷ xs) h = go (isSpace x) refl (lower-space xs) h
   where
-    go : (a : Bool) → isSpace x ≡ a → (hasSpace xs ≡ true → hasSpace (map lower xs) ≡ true) → a || hasSpace xs ≡ true → isSpace (lower x) || hasSpace (map lower xs) ≡ true
+    go : (a : Bool) → isSpace x ≡ a → (hasSpace xs ≡ true → hasSpace (map lowerCase xs) ≡ true) → a || hasSpace xs ≡ true → isSpace (lowerCase x) || hasSpace (map lowerCase xs) ≡ true
     go true e ih q = rw (lt-leb 65 x (omega (arith, space-low x e)), e) refl
-    go false e ih q = rw (ih q) (or-true (isSpace (lower x)))
+    go false e ih q = rw (ih q) (or-true (isSpace (lowerCase x)))
 
 -- has no name of a table white space?
 unfoldable allPlain : List Named → Bool
@@ -186,9 +186,9 @@ bare-space s h = go (startsWith (text "x") s || startsWith (text "X") s) refl
     digits t k true e = digits-space 10 31 (drop 1 t) (omega arith) (after-prefix (text "+") t refl e k)
     digits t k false e = digits-space 10 31 t (omega arith) k
 
-    go : (b : Bool) → startsWith (text "x") s || startsWith (text "X") s ≡ b → cond b (xNumber (drop 1 s)) (numberIn abiNames (map lower s)) ≡ none
+    go : (b : Bool) → startsWith (text "x") s || startsWith (text "X") s ≡ b → cond b (xNumber (drop 1 s)) (numberIn abiNames (map lowerCase s)) ≡ none
     go true e = digits (drop 1 s) (after-either (text "x") (text "X") s refl refl refl e h) _ refl
-    go false e = name-space abiNames (map lower s) abi-plain (lower-space s h)
+    go false e = name-space abiNames (map lowerCase s) abi-plain (lower-space s h)
 
 -- white space after a backslash stands for nothing
 escape-space : (e : ℕ) → isSpace e ≡ true → escaped e ≡ none

@@ -9,8 +9,9 @@ use native.Mathlib.Numerals.{add-one, sub-one}
 use lib.ListN.{length, drop, take, getD, drop-of-length-le, length-drop, length-take, take-append-drop}
 use lib.Seq.{take-take, drop-cons, drop-drop, take-suc, take-all, take-nil, length-take-le, take-append-le, drop-append-le}
 use Rattle.numbers.specs.declared.text.Span.{Span}
-use Rattle.numbers.specs.Text.{byte, isSpace, leading, leadingSpaces, trimStart, consTrimmed, trimEnd, trimmed, spanned, trimSpan}
-use Rattle.numbers.specs.Text.{indexOf, before, uncommented, statementSpan, spaceFirst}
+use Rattle.numbers.specs.Text.{byte, isSpace, trimStart, consTrimmed, trimEnd, trimmed, indexOf, before, uncommented, spaceFirst}
+use Rattle.numbers.specs.Text.{leading, leadingSpaces}
+use Rattle.numbers.specs.code.Spans.{spanned, trimSpan, statementSpan}
 
 -- the code's `&s[a..]` is the text from a on
 pub tail : (s : List ℕ) (a : ℕ) → take (length s - a) (drop a s) ≡ drop a s

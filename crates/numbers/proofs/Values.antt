@@ -13,7 +13,8 @@ use lib.Seq.{drop-cons}
 use borrow.Author.Tests.{le-leb, lt-leb, lt-ltb, le-ltb, leb-true}
 use Rattle.numbers.specs.declared.digits.Radix.{Radix}
 use Rattle.numbers.specs.declared.digits.Radix.the-variants.{Binary, Decimal, Hex}
-use Rattle.numbers.specs.Numbers.{baseOf, digitOf, allDigits, valueFrom, digitsFrom, digitsOf}
+use Rattle.numbers.specs.Numbers.{digitOf, allDigits, valueFrom, digitsFrom, digitsOf}
+use Rattle.numbers.specs.code.Meanings.{baseOf}
 use Rattle.numbers.proofs.Bools.{none-some}
 
 -- a base is 2 at least and 16 at most

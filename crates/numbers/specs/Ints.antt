@@ -4,8 +4,6 @@ use mathlib.Core.Bool.{Bool, true, false, cond, _&&_}
 use mathlib.Core.Option.{Option, none, some}
 use lib.IntN.{ℤ, pos, negsuc, negℤ}
 use lib.Signed.{leZ}
-use Rattle.numbers.specs.declared.ints.Checked.{Checked}
-use Rattle.numbers.specs.declared.ints.Checked.the-variants.{Fits, Beyond}
 
 -- does z lie from lo to hi?
 abbrev pub within : ℤ → ℤ → ℤ → Bool
@@ -18,11 +16,6 @@ in64 z = within (negℤ (pos (2 ^ 63))) (pos (2 ^ 63 - 1)) z
 -- z, where 64 signed bits hold it; none where it is "beyond 64 signed bits"
 unfoldable pub fit64 : ℤ → Option ℤ
 fit64 z = cond (in64 z) (some z) none
-
--- what an answer says
-abbrev pub checkedValue : Checked → Option ℤ
-checkedValue (Fits z) = some z
-checkedValue Beyond = none
 
 -- "each negated by every `-` just before it": z times the sign, a minus where the sign is true
 abbrev pub signTimes : Bool → ℤ → ℤ

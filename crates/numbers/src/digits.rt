@@ -1,7 +1,8 @@
 // Digits in base 2, 10 and 16, with a limit.
 ghost use mathlib.Core.Path.{_≡_};
 ghost use Prim.Native.Nat.{_/_};
-ghost use Rattle.numbers.specs.Numbers.{baseOf, digitOf, digitsOf, digitsValue};
+ghost use Rattle.numbers.specs.Numbers.{digitOf, digitsOf};
+ghost use Rattle.numbers.specs.code.Meanings.{baseOf, digitsValue};
 
 pub enum Radix {
     Binary,
@@ -10,7 +11,7 @@ pub enum Radix {
 }
 
 impl Radix {
-    pub fn base(self) -> u64
+    fn base(self) -> u64
         ensures { λ r. ⌜ r ≡ baseOf self ⌝ }
     {
         match self {

@@ -3,9 +3,12 @@ use crate::digits::Digits;
 use crate::digits::Radix;
 use crate::digits::parse_digits;
 use crate::ints::Checked;
+use crate::ints::Imm;
+use crate::ints::Imm64;
 use crate::ints::checked_neg;
 use crate::ints::in_signed32;
 use crate::ints::in_unsigned32;
+use crate::ints::widened;
 use crate::literals::parse_char_lit;
 use crate::text::first_is;
 use crate::text::same_one_spaced;
@@ -13,22 +16,13 @@ use crate::text::starts_with;
 use crate::text::trim;
 ghost use mathlib.Core.Path.{_≡_};
 ghost use Prim.Native.Nat.{_-_, _^_};
-ghost use Rattle.numbers.specs.Numbers.{baseOf, digitsOf, plus, minus, signedDigits, prefixed, negated};
-ghost use Rattle.numbers.specs.Numbers.{outerSigned, numberOf, imm64Of, immOf, spacedImmOf, immValue, imm64Value};
-
-pub enum Imm {
-    Value(i32),
-    Invalid,
-}
-
-pub enum Imm64 {
-    Value(i64),
-    Invalid,
-}
+ghost use Rattle.numbers.specs.Numbers.{digitsOf, positiveOf, negativeOf, signedDigits, prefixed, negated};
+ghost use Rattle.numbers.specs.code.Meanings.{baseOf, immValue, imm64Value};
+ghost use Rattle.numbers.specs.Numbers.{outerSigned, numberOf, imm64Of, immOf, spacedImmOf};
 
 // Digits without a sign, or after a plus.
 fn positive(s: &[u8], radix: Radix) -> Imm64
-    ensures { λ r. ⌜ imm64Value r ≡ plus (digitsOf (baseOf radix) (2 ^ 63 - 1) (now (s .entry))) ⌝ }
+    ensures { λ r. ⌜ imm64Value r ≡ positiveOf (digitsOf (baseOf radix) (2 ^ 63 - 1) (now (s .entry))) ⌝ }
 {
     let Digits::Value(n) = parse_digits(s, radix, 9223372036854775807) else {
         return Imm64::Invalid;
@@ -38,7 +32,7 @@ fn positive(s: &[u8], radix: Radix) -> Imm64
 
 // Digits after a minus, which may be one more than without it.
 fn negative(s: &[u8], radix: Radix) -> Imm64
-    ensures { λ r. ⌜ imm64Value r ≡ minus (digitsOf (baseOf radix) (2 ^ 63) (now (s .entry))) ⌝ }
+    ensures { λ r. ⌜ imm64Value r ≡ negativeOf (digitsOf (baseOf radix) (2 ^ 63) (now (s .entry))) ⌝ }
 {
     let Digits::Value(n) = parse_digits(s, radix, 9223372036854775808) else {
         return Imm64::Invalid;
@@ -120,16 +114,6 @@ pub fn parse_imm64(s: &[u8]) -> Imm64
         return widened(parse_char_lit(t));
     }
     trimmed_number(t)
-}
-
-// The same number in 64 bits.
-pub fn widened(n: Imm) -> Imm64
-    ensures { λ r. ⌜ imm64Value r ≡ immValue n ⌝ }
-{
-    match n {
-        Imm::Value(v) => Imm64::Value(v as i64),
-        Imm::Invalid => Imm64::Invalid,
-    }
 }
 
 // A number or a character literal: -2^31 to 2^32 - 1, the upper half as negative.

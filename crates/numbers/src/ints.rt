@@ -1,13 +1,24 @@
-// Signed numbers: sums and signs within 64 bits, ranges, and the bits of a number.
+// Signed numbers of 32 and 64 bits: sums and signs, ranges, and the bits of a number.
 ghost use mathlib.Core.Path.{_≡_};
 ghost use lib.IntN.{negℤ, _+ℤ_};
-ghost use Rattle.numbers.specs.Ints.{fit64, checkedValue, signTimes, bits};
-ghost use Rattle.numbers.specs.Ints.{isByte, isHalf, isSigned12, isSigned32, isUnsigned32};
+ghost use Rattle.numbers.specs.Ints.{fit64, signTimes, bits, isByte, isHalf, isSigned12, isSigned32, isUnsigned32};
+ghost use Rattle.numbers.specs.code.Meanings.{checkedValue, immValue, imm64Value};
 
 // A number that 64 signed bits hold, or one beyond them.
 pub enum Checked {
     Fits(i64),
     Beyond,
+}
+
+// A number that was read, of 32 bits or 64, or a text that is none.
+pub enum Imm {
+    Value(i32),
+    Invalid,
+}
+
+pub enum Imm64 {
+    Value(i64),
+    Invalid,
 }
 
 // a + b, compared with the bounds before it is made.
@@ -96,4 +107,14 @@ pub fn bits_of_i32(v: i32) -> u32
         return 4294967295 - ((-1 - v) as u32);
     }
     v as u32
+}
+
+// The same number in 64 bits.
+pub fn widened(n: Imm) -> Imm64
+    ensures { λ r. ⌜ imm64Value r ≡ immValue n ⌝ }
+{
+    match n {
+        Imm::Value(v) => Imm64::Value(v as i64),
+        Imm::Invalid => Imm64::Invalid,
+    }
 }

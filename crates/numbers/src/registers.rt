@@ -9,8 +9,9 @@ ghost use mathlib.Core.List.{map};
 ghost use Rattle.numbers.specs.Numbers.{digitsOf};
 ghost use Prim.Native.Nat.{_≤_};
 ghost use lib.ListN.{length};
-ghost use Rattle.numbers.specs.Registers.{abiNames, numberIn, lower, keyOf, xNumber, registerOf};
-ghost use Rattle.numbers.specs.Registers.{checkedRegister, registerNumber};
+ghost use Rattle.numbers.specs.Registers.{abiNames, numberIn, lowerCase, xNumber, registerOf, checkedRegister};
+ghost use Rattle.numbers.specs.code.Tables.{keyOf};
+ghost use Rattle.numbers.specs.code.Meanings.{registerNumber};
 
 // A register by its number. A number above 31 can be held; the encoder refuses it.
 pub struct Register(pub u8);
@@ -118,7 +119,7 @@ const ABI_NUMBERS: [u8; 33] = [
 ];
 
 fn lower_case(b: u8) -> u8
-    ensures { λ r. ⌜ r ≡ lower b ⌝ }
+    ensures { λ r. ⌜ r ≡ lowerCase b ⌝ }
 {
     match b {
         b'A'..=b'Z' => b + 32,
@@ -126,10 +127,10 @@ fn lower_case(b: u8) -> u8
     }
 }
 
-// A short name as one number, in lower case: the first letter in the lowest byte, a 1 after the last.
+// A short name as one number, in lowerCase case: the first letter in the lowest byte, a 1 after the last.
 fn name_key(s: &[u8]) -> u64
     requires { ⌜ length (now s) ≤ 4 ⌝ }
-    ensures { λ r. ⌜ r ≡ keyOf (map lower (now (s .entry))) ⌝ }
+    ensures { λ r. ⌜ r ≡ keyOf (map lowerCase (now (s .entry))) ⌝ }
 {
     let mut key: u64 = 1;
     let mut i = s.len();
@@ -142,7 +143,7 @@ fn name_key(s: &[u8]) -> u64
 
 // The register of an ABI name, in either letter case.
 fn abi_register(s: &[u8]) -> Reg
-    ensures { λ r. ⌜ registerNumber r ≡ numberIn abiNames (map lower (now (s .entry))) ⌝ }
+    ensures { λ r. ⌜ registerNumber r ≡ numberIn abiNames (map lowerCase (now (s .entry))) ⌝ }
 {
     if 4 < s.len() {
         return Reg::Invalid;

@@ -3,9 +3,11 @@ ghost use mathlib.Core.Path.{_≡_};
 ghost use Prim.Native.Nat.{_<_};
 ghost use mathlib.Core.List.{[], _∷_};
 ghost use lib.ListN.{length, drop};
-ghost use Rattle.numbers.specs.Text.{isSpace, leadingSpaces, trimEnd, trimmed, trimSpan, spanned};
-ghost use Rattle.numbers.specs.Text.{indexOf, before, uncommented, statementSpan};
-ghost use Rattle.numbers.specs.Text.{startsWith, same, oneSpacedByte, oneSpacedHead, oneSpaced};
+ghost use Rattle.numbers.specs.Text.{isSpace, trimEnd, trimmed, indexOf, before, uncommented};
+ghost use Rattle.numbers.specs.Text.{leadingSpaces};
+ghost use Rattle.numbers.specs.code.Spans.{trimSpan, spanned, statementSpan};
+ghost use Rattle.numbers.specs.Text.{startsWith, same, oneSpacedHead, oneSpaced};
+ghost use Rattle.numbers.specs.code.Meanings.{oneSpacedByte};
 
 // A part of a text: where it starts, and how many bytes it has.
 pub struct Span {
@@ -104,7 +106,7 @@ pub fn text_before(s: &[u8], b: u8) -> &[u8]
 }
 
 // A line without its comment: cut at the first `;`, then at the first `#`.
-pub fn cut_comment(line: &[u8]) -> &[u8]
+fn cut_comment(line: &[u8]) -> &[u8]
     ensures { λ r. ⌜ now r ≡ uncommented (now (line .entry)) ⌝ }
 {
     let t = text_before(line, b';');

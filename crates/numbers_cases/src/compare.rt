@@ -1,13 +1,13 @@
 // One line of the list against what the crate numbers answers.
-use numbers::imm::Imm;
-use numbers::imm::Imm64;
 use numbers::imm::parse_imm;
 use numbers::imm::parse_imm64;
-use numbers::imm::widened;
+use numbers::ints::Imm;
+use numbers::ints::Imm64;
 use numbers::ints::bits_of_i64;
 use numbers::ints::in_byte;
 use numbers::ints::in_half;
 use numbers::ints::in_signed12;
+use numbers::ints::widened;
 use numbers::literals::StrLit;
 use numbers::literals::parse_char_lit;
 use numbers::literals::parse_str_lit;

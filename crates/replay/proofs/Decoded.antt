@@ -13,7 +13,7 @@ use Rattle.numbers.specs.Text.{byte, indexOf}
 use Rattle.numbers.proofs.Places.{index-within}
 use Rattle.numbers.proofs.Trims.{tail}
 use Rattle.replay.specs.declared.field.Written.{Written}
-use Rattle.replay.specs.Fields.{after, plain, escaped, writtenFirst, decodedPast, decoded}
+use Rattle.replay.specs.Fields.{after, plain, hexByte, writtenFirst, decodedPast, decoded}
 
 -- no b: nothing follows it
 pub after-none : (b : ℕ) (s : List ℕ) (n : ℕ) → n ≡ indexOf b s → n ≡ length s → take (length s - n) (drop n s) ≡ after b s
@@ -48,12 +48,12 @@ pub first-short : (s : List ℕ) → length s ≤ 2 → plain (getD s 0 0) ≡ w
 unfolding writtenFirst
 first-short s h = rw (le-ltb 2 (length s) h, both (eqb (getD s 0 0) (byte "%"))) refl
 
-pub first-escaped : (s : List ℕ) → getD s 0 0 ≡ byte "%" → 2 < length s → escaped (getD s 1 0) (getD s 2 0) ≡ writtenFirst s
+pub first-escaped : (s : List ℕ) → getD s 0 0 ≡ byte "%" → 2 < length s → hexByte (getD s 1 0) (getD s 2 0) ≡ writtenFirst s
 unfolding writtenFirst
 first-escaped s h l = rw (eq-eqb (getD s 0 0) (byte "%") h, lt-ltb 2 (length s) l) refl
 
 -- it takes at least one byte, and at most three
-width-of : (t : Bool) (a b c : ℕ) → (1 ≤ cond t (escaped a b) (plain c) .width) × (cond t (escaped a b) (plain c) .width ≤ 3)
+width-of : (t : Bool) (a b c : ℕ) → (1 ≤ cond t (hexByte a b) (plain c) .width) × (cond t (hexByte a b) (plain c) .width ≤ 3)
 width-of true a b c = (omega arith, omega arith)
 width-of false a b c = (omega arith, omega arith)
 

@@ -6,12 +6,13 @@ use native.Mathlib.Omega.{arith}
 use lib.ListN.{length}
 use borrow.Author.Tests.{eq-eqb, ne-eqb}
 use Rattle.numbers.specs.declared.text.Span.{Span}
-use Rattle.numbers.specs.Text.{spanned, indexOf}
+use Rattle.numbers.specs.Text.{indexOf}
+use Rattle.numbers.specs.code.Spans.{spanned}
 use Rattle.numbers.proofs.Places.{index-within}
 use Rattle.replay.specs.declared.lines.Cursor.{Cursor}
 use Rattle.replay.specs.declared.lines.Step.{Step}
 use Rattle.replay.specs.declared.lines.Step.the-variants.{Line, End}
-use Rattle.replay.specs.Lines.{lineFeed, cursorAt, lineOf, stepOf, lineIn, Refilled, NextLine}
+use Rattle.replay.specs.Lines.{lineFeed, cursorAt, lineFound, stepOf, lineIn, Refilled, NextLine}
 use Rattle.replay.proofs.Kept.{part-within}
 
 module _ (s : List ℕ) (c : Cursor) (u : List ℕ) (n : ℕ) (e : u ≡ spanned s (c .unread)) (f : n ≡ indexOf lineFeed u) where
@@ -21,7 +22,7 @@ module _ (s : List ℕ) (c : Cursor) (u : List ℕ) (n : ℕ) (e : u ≡ spanned
   line-none h = rw (← e, ← f, eq-eqb n (length u) h) (ap End h)
 
   -- an LF: a line
-  pub line-some : (n ≡ length u → ⊥) → lineOf (c .unread .start) (length u) n ≡ lineIn s c
+  pub line-some : (n ≡ length u → ⊥) → lineFound (c .unread .start) (length u) n ≡ lineIn s c
   unfolding lineIn stepOf
   line-some h = rw (← e, ← f, ne-eqb n (length u) h) refl
 

@@ -9,7 +9,7 @@ use lib.ListN.{length, take, drop, getD, set, length-take, length-drop, length-a
 use borrow.Rule.Slice.PartMut.{putMid, postOf, take-put}
 use lib.Seq.{length-take-le, take-append-seam, take-suc, take-suc-set, getD-drop, drop-set-lt, drop-drop}
 use Rattle.numbers.specs.declared.text.Span.{Span}
-use Rattle.numbers.specs.Text.{spanned}
+use Rattle.numbers.specs.code.Spans.{spanned}
 use Rattle.replay.specs.Lines.{Refilled}
 
 -- a part's bytes stand within the block

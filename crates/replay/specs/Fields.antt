@@ -20,12 +20,12 @@ after b s = drop (indexOf b s + 1) s
 abbrev pub plain : ℕ → Written
 plain b = record { byte = b; width = 1 }
 
-abbrev pub escaped : ℕ → ℕ → Written
-escaped high low = record { byte = digitOf high % 16 * 16 + digitOf low % 16; width = 3 }
+abbrev pub hexByte : ℕ → ℕ → Written
+hexByte high low = record { byte = digitOf high % 16 * 16 + digitOf low % 16; width = 3 }
 
 -- the first byte of a field, and how many bytes it is written with: `%` needs two bytes behind it
 unfoldable pub writtenFirst : List ℕ → Written
-writtenFirst s = cond (eqb (getD s 0 0) (byte "%") && ltb 2 (length s)) (escaped (getD s 1 0) (getD s 2 0)) (plain (getD s 0 0))
+writtenFirst s = cond (eqb (getD s 0 0) (byte "%") && ltb 2 (length s)) (hexByte (getD s 1 0) (getD s 2 0)) (plain (getD s 0 0))
 
 -- the bytes that a field stands for behind its first n
 unfoldable pub decodedPast : ℕ → List ℕ → List ℕ

@@ -6,7 +6,8 @@ use mathlib.Core.Bool.{cond}
 use lib.Dec.{eqb}
 use lib.ListN.{length, take}
 use Rattle.numbers.specs.declared.text.Span.{Span}
-use Rattle.numbers.specs.Text.{spanned, indexOf}
+use Rattle.numbers.specs.Text.{indexOf}
+use Rattle.numbers.specs.code.Spans.{spanned}
 use Rattle.replay.specs.declared.lines.Cursor.{Cursor}
 use Rattle.replay.specs.declared.lines.Step.{Step}
 use Rattle.replay.specs.declared.lines.Step.the-variants.{Line, End}
@@ -20,15 +21,15 @@ abbrev pub cursorAt : ℕ → ℕ → Cursor
 cursorAt start len = record { unread = record { start = start; len = len } }
 
 -- the line of so many bytes that begins a part, and the part behind its LF
-abbrev pub lineOf : ℕ → ℕ → ℕ → Step
-lineOf start size n = Line (record { start = start; len = n }) (cursorAt (start + n + 1) (size - n - 1))
+abbrev pub lineFound : ℕ → ℕ → ℕ → Step
+lineFound start size n = Line (record { start = start; len = n }) (cursorAt (start + n + 1) (size - n - 1))
 
 -- the first line of a part that stands at start, or the number of its bytes if it has no LF
 unfoldable pub stepOf : ℕ → List ℕ → Step
 stepOf start part =
     cond (eqb (indexOf lineFeed part) (length part))
     (End (length part))
-    (lineOf start (length part) (indexOf lineFeed part))
+    (lineFound start (length part) (indexOf lineFeed part))
 
 -- the first line of the unread bytes
 unfoldable pub lineIn : List ℕ → Cursor → Step

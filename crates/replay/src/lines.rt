@@ -8,7 +8,7 @@ ghost use mathlib.Core.Bool.{true};
 ghost use lib.IntN.{pos, negsuc};
 ghost use lib.Signed.{ltZ};
 ghost use lib.ListN.{length, take};
-ghost use Rattle.numbers.specs.Text.{spanned};
+ghost use Rattle.numbers.specs.code.Spans.{spanned};
 ghost use Rattle.replay.specs.Lines.{lineIn, Refilled, NextLine};
 
 // The part of the block that was read from the list and not yet given as lines.
@@ -43,7 +43,7 @@ pub fn open(path: &[u8]) -> i32
 }
 
 // The first line of the unread bytes, if they have a whole one.
-pub fn line_in(block: &[u8], cursor: Cursor) -> Step
+fn line_in(block: &[u8], cursor: Cursor) -> Step
     ensures { λ r. ⌜ r ≡ lineIn (now (block .entry)) cursor ⌝ }
 {
     let start = cursor.unread.start;

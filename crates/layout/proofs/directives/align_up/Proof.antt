@@ -2,7 +2,7 @@
 use mathlib.Core.Path.{sym}
 use Prim.Native.Nat.{_+_, _-_}
 use lib.Bits.{and-le-l}
-use Rattle.layout.proofs.Aligning.{aligned-stays, aligned-moves}
+use Rattle.layout.proofs.ReservationLaws.{aligned-stays, aligned-moves}
 use borrow.Author.Needs.{needs}
 use Rattle.layout.proofs.directives.align_up.Statement.{statement}
 use Rattle.layout.proofs.directives.align_up.Tie as tie

@@ -1,94 +1,69 @@
--- `labels::add_label`: the search says which way the definition goes, and the record is put where its table has it.
+-- `labels::add_label`: the label takes the place of one of its name, or is one more.
+use mathlib.Core.Path.{refl, ap, _∙_}
+use native.Mathlib.Omega.{arith}
+use Prim.Native.Nat.{ℕ, _*_}
+use mathlib.Core.List.{List}
+use Rattle.layout.specs.Bytes.{put}
+use Rattle.layout.specs.Limits.{labelSize}
+use Rattle.layout.proofs.LabelLaws.{label-written, label-fits, label-known, label-new, label-full}
 use borrow.Author.Needs.{needs}
-use Prim.Native.Nat.{_/_}
-use lib.ListN.{length}
-use Rattle.layout.proofs.Tabled.{one-more, one-below, no-more, searched, label-known, label-new, label-full}
 use Rattle.layout.proofs.labels.add_label.Statement.{statement}
 use Rattle.layout.proofs.labels.add_label.Tie as tie
 
-place-code-requires : tie.Need-place-code-requires
-place-code-requires c κs = search needs
-
-span-bytes-requires : tie.Need-span-bytes-requires
-span-bytes-requires c κs = search needs
-
-find-label-requires : tie.Need-find-label-requires
-find-label-requires c κs = search needs
-
-enum-known-k : tie.Need-enum-known-k
-enum-known-k c = search needs
-
 put-label-requires : tie.Need-put-label-requires
-put-label-requires c κs = let h = rw (c .before .before .k .given .1) at (c .before .before .before .before .find-label .ensures .0) in search needs
-
-enum-told : tie.Need-enum-told
-enum-told c = search needs
-
-same-length : tie.Need-same-length
-same-length c = search needs
+put-label-requires c κs =
+    let s = c .before .before .before .before .before .before .before .before .before .before .before .before in
+    omega (arith, s .pre .0 .stands .counted, s .pre .0 .stands .fits .few, s .pre .0 .stands .lent, rw (c .before .before .k .given .1) at (c .before .before .before .before .find-label .ensures .1))
 
 returns : tie.Need-returns
-returns c = λ room e x i m f k σ _ s.
-    let find = c .before .before .before in
-    let bytes = find .before in
-    let a = bytes .before .before .before .before .before .args in
-    label-full _ k _ σ _ e x i m f s (a .line) (a .name) _
-    (searched _ k _ σ _ e x i m f s (find .find-label .result) _ _ _ (bytes .span-bytes .ensures) (find .find-label .ensures .1) (c .before .enum-told .given .1))
-    (no-more (a .st .labels) 1024 (length (a .labels .now) / 16) (c .if1 .taken))
-
-put-label-requires-2 : tie.Need-put-label-requires-2
-put-label-requires-2 c κs =
-    let a = c .before .before .before .before .before .before .before .before .before .before .args in
-    let h = one-below (a .st .labels) 1024 (length (a .labels .now) / 16) (c .before .if1 .left) in
-    search needs
-
-add-next : tie.Need-add-next
-add-next c = search needs
-
-same-length-2 : tie.Need-same-length-2
-same-length-2 c = search needs
+returns c =
+    let f = c .before .before .before .before in
+    let s = f .before .before .before .before .before .before .before .before in
+    let a = s .args in
+    λ ls h. label-full (a .text .now) (a .room) (a .count) (a .labels .now) _ _ (s .pre .2 .0)
+    (label-fits (a .text .now) (a .name) (a .place) (a .line) (s .pre .3) (s .pre .1) (s .pre .2 .1)) refl ls h
+    (rw (c .before .before .enum-told .given .1, f .before .span-bytes .ensures) at (f .find-label .ensures .0)) (c .if1 .taken)
 
 returns-2 : tie.Need-returns-2
-returns-2 c = λ room e x i m f k σ _ s.
-    let find = c .before .before .before .before .before .before .before in
-    let bytes = find .before in
-    let place = bytes .before .before in
-    let start = place .before .before .before in
-    let a = start .args in
-    label-known _ k _ σ _ e x i m f s (a .line) (a .name) (start .pre .2 .1) (start .pre .3) _ (place .place-code .ensures) _ _
-    (searched _ k _ σ _ e x i m f s (find .find-label .result) _ _ _ (bytes .span-bytes .ensures) (find .find-label .ensures .1) (c .before .before .before .before .before .k .given .1))
-    (c .before .before .put-label .ensures)
-
-same-length-3 : tie.Need-same-length-3
-same-length-3 c = search needs
+returns-2 c =
+    let p = c .before .before in
+    let f = p .before .before .before .before .before in
+    let s = f .before .before .before .before .before .before .before .before in
+    let a = s .args in
+    λ ls h. label-known (a .text .now) (a .room) (a .count) (a .labels .now) _ _ (s .pre .2 .0)
+    (label-fits (a .text .now) (a .name) (a .place) (a .line) (s .pre .3) (s .pre .1) (s .pre .2 .1)) (search needs) ls h _
+    (rw (p .before .before .before .k .given .1, f .before .span-bytes .ensures) at (f .find-label .ensures .0))
+    (p .put-label .ensures ∙ ap (λ (bs : List ℕ). put (p .before .before .before .k .given .0 .0 * labelSize) bs (a .labels .now)) (label-written (a .text .now) (a .name) (a .place) (a .line) (s .pre .3) _ (f .before .before .before .code .ensures)))
 
 returns-3 : tie.Need-returns-3
-returns-3 c = λ room e x i m f k σ _ s.
-    let find = c .before .before .before .before .before .before .before in
-    let bytes = find .before in
-    let place = bytes .before .before in
-    let start = place .before .before .before in
-    let a = start .args in
-    label-new _ k _ σ _ e x i m f s (a .line) (a .name) (start .pre .2 .1) (start .pre .3) _ (place .place-code .ensures) _
-    (searched _ k _ σ _ e x i m f s (find .find-label .result) _ _ _ (bytes .span-bytes .ensures) (find .find-label .ensures .1) (c .before .before .before .before .before .enum-told .given .1))
-    (one-more (a .st .labels) 1024 (length (a .labels .now) / 16) (c .before .before .before .before .if1 .left))
-    (c .before .before .put-label2 .ensures)
+returns-3 c =
+    let p = c .before .before in
+    let f = p .before .before .before .before .before .before in
+    let s = f .before .before .before .before .before .before .before .before in
+    let a = s .args in
+    λ ls h. label-new (a .text .now) (a .room) (a .count) (a .labels .now) _ _ (s .pre .2 .0)
+    (label-fits (a .text .now) (a .name) (a .place) (a .line) (s .pre .3) (s .pre .1) (s .pre .2 .1)) (search needs) ls h
+    (rw (p .before .before .before .before .enum-told .given .1, f .before .span-bytes .ensures) at (f .find-label .ensures .0))
+    (p .before .before .if1 .left)
+    (p .put-label2 .ensures ∙ ap (λ (bs : List ℕ). put (a .count * labelSize) bs (a .labels .now)) (label-written (a .text .now) (a .name) (a .place) (a .line) (s .pre .3) _ (f .before .before .before .code .ensures)))
 
 pub add-label-spec : {M : Type 1} → statement M
 add-label-spec =
     tie.close
     (tie.spec
-    place-code-requires
-    span-bytes-requires
-    find-label-requires
-    enum-known-k
+    (λ c. search needs)  -- cast-t10
+    (λ c. search needs)  -- cast-t11
+    (λ c κs. search needs)  -- code-requires
+    (λ c κs. search needs)  -- span-bytes-requires
+    (λ c κs. search needs)  -- find-label-requires
+    (λ c. search needs)  -- enum-known-k
     put-label-requires
-    enum-told
-    same-length
+    (λ c. search needs)  -- enum-told
+    (λ c. search needs)  -- same-length
     returns
-    put-label-requires-2
-    add-next
-    same-length-2
+    (λ c κs. search needs)  -- put-label-requires-2
+    (λ c. search needs)  -- add-t25
+    (λ c. search needs)  -- same-length-2
     returns-2
-    same-length-3
+    (λ c. search needs)  -- same-length-3
     returns-3)

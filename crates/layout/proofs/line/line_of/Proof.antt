@@ -1,80 +1,18 @@
--- `line::line_of`: the definition parts the statement at the same colon.
-use Prim.Native.Nat.{_+_}
-use mathlib.Core.Path.{refl, sym, _∙_}
-use denote.Ref.{now}
-use Rattle.layout.specs.Statements.{lineOf}
-use Rattle.layout.specs.Spans.{pieceAt}
-use Rattle.layout.proofs.Parted.{trim-from-back}
-use Rattle.layout.proofs.Said.{unlabelled-line, labelled-line}
+-- `line::line_of`: the statement is read back by its own span.
+use mathlib.Core.Path.{refl}
+use Rattle.layout.proofs.SpanLaws.{statement-back}
 use borrow.Author.Needs.{needs}
 use Rattle.layout.proofs.line.line_of.Statement.{statement}
 use Rattle.layout.proofs.line.line_of.Tie as tie
 
-span-bytes-requires : tie.Need-span-bytes-requires
-span-bytes-requires c κs = search needs
+statement-part-requires : tie.Need-statement-part-requires
+statement-part-requires c κs = search needs
 
-is-section-line-requires : tie.Need-is-section-line-requires
-is-section-line-requires c κs = search needs
-
-section-line-requires : tie.Need-section-line-requires
-section-line-requires c κs = search needs
+parsed-requires : tie.Need-parsed-requires
+parsed-requires c κs = search needs
 
 returns : tie.Need-returns
-unfolding lineOf
-returns c = rw (c .section-line .ensures, ← c .before .before .before .span-bytes .ensures, ← c .before .before .is-section-line .ensures, c .before .if1 .taken) refl
-
-find-requires : tie.Need-find-requires
-find-requires c κs = search needs
-
-unlabelled-requires : tie.Need-unlabelled-requires
-unlabelled-requires c κs = search needs
-
-returns-2 : tie.Need-returns-2
-returns-2 c =
-    let a = c .before .before .before .before .before .before .before .args in
-    let s = c .before .before .before .before .before .span-bytes .ensures in
-    let p = pieceAt (now (a .text)) (a .part) in
-    let other = sym (rw s at (c .before .before .before .before .is-section-line .ensures)) ∙ c .before .before .before .if1 .left in
-    let said = unlabelled-line p (c .before .before .find .result) (rw s at (c .before .before .find .ensures)) other (rw s at (c .before .if2 .taken)) in
-    rw (c .unlabelled .ensures, said) refl
-
-trim-to-requires : tie.Need-trim-to-requires
-trim-to-requires c κs = rw (← c .before .before .before .before .span-bytes .ensures) (search needs)
-
-add-trim-from : tie.Need-add-trim-from
-add-trim-from c = search needs
-
-trim-from-requires : tie.Need-trim-from-requires
-trim-from-requires c κs = rw (← c .before .before .before .before .before .span-bytes .ensures) (search needs)
-
-unlabelled-requires-2 : tie.Need-unlabelled-requires-2
-unlabelled-requires-2 c κs = search needs
-
-returns-3 : tie.Need-returns-3
-returns-3 c =
-    let at = c .before .before .before in
-    let a = at .before .before .before .before .before .before .args in
-    let s = at .before .before .before .before .span-bytes .ensures in
-    let p = pieceAt (now (a .text)) (a .part) in
-    let colon = at .before .find in
-    let other = sym (rw s at (at .before .before .before .is-section-line .ensures)) ∙ at .before .before .if1 .left in
-    let said = labelled-line p (colon .result) (rw s at (colon .ensures)) other (rw s at (at .if2 .left)) in
-    let back = trim-from-back (now (a .text)) (a .part) (colon .result + 1) (rw (← s) (search needs)) in
-    rw (c .unlabelled2 .ensures, c .before .trim-from .ensures, back, c .before .before .trim-to .ensures, said) refl
+returns c = rw (c .parsed .ensures, c .before .statement-part .ensures, statement-back) refl
 
 pub line-of-spec : {M : Type 1} → statement M
-line-of-spec =
-    tie.close
-    (tie.spec
-    span-bytes-requires
-    is-section-line-requires
-    section-line-requires
-    returns
-    find-requires
-    unlabelled-requires
-    returns-2
-    trim-to-requires
-    add-trim-from
-    trim-from-requires
-    unlabelled-requires-2
-    returns-3)
+line-of-spec = tie.close (tie.spec statement-part-requires parsed-requires returns)

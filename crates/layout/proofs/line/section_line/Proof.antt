@@ -5,16 +5,10 @@ use lib.Seq.{length-take-le}
 use Rattle.layout.specs.Statements.{sectionLine}
 use Rattle.numbers.proofs.Prefixes.{prefix-length}
 use Rattle.numbers.proofs.Trims.{tail}
-use Rattle.layout.proofs.Parted.{count-within}
+use Rattle.layout.proofs.SpanLaws.{count-within}
 use borrow.Author.Needs.{needs}
 use Rattle.layout.proofs.line.section_line.Statement.{statement}
 use Rattle.layout.proofs.line.section_line.Tie as tie
-
-slice-aggregate-starts-with : tie.Need-slice-aggregate-starts-with
-slice-aggregate-starts-with c = search needs
-
-starts-with-requires : tie.Need-starts-with-requires
-starts-with-requires c κs = search needs
 
 sub-trim : tie.Need-sub-trim
 sub-trim c = prefix-length _ _ (sym (c .before .starts-with .ensures) ∙ c .if1 .taken)
@@ -22,29 +16,14 @@ sub-trim c = prefix-length _ _ (sym (c .before .starts-with .ensures) ∙ c .if1
 part-trim-start : tie.Need-part-trim-start
 part-trim-start c = omega (arith, prefix-length _ _ (sym (c .before .starts-with .ensures) ∙ c .if1 .taken))
 
-part-trim-end : tie.Need-part-trim-end
-part-trim-end c = search needs
-
-trim-requires : tie.Need-trim-requires
-trim-requires c κs = search needs
-
-section-name-len-requires : tie.Need-section-name-len-requires
-section-name-len-requires c κs = search needs
-
 slice-aggregate-section-of : tie.Need-slice-aggregate-section-of
 slice-aggregate-section-of c = sym (length-take-le _ _ (rw (c .before .section-name-len .ensures) (count-within _ _)))
-
-section-of-requires : tie.Need-section-of-requires
-section-of-requires c κs = search needs
 
 returns : tie.Need-returns
 unfolding sectionLine
 returns c =
     let at = c .before .before .before .before .before in
     rw (c .section-of .ensures, c .before .before .section-name-len .ensures, c .before .before .before .trim .ensures, tail, ← at .before .starts-with .ensures, at .if1 .taken) refl
-
-section-of-requires-2 : tie.Need-section-of-requires-2
-section-of-requires-2 c κs = search needs
 
 returns-2 : tie.Need-returns-2
 unfolding sectionLine
@@ -54,15 +33,15 @@ pub section-line-spec : {M : Type 1} → statement M
 section-line-spec =
     tie.close
     (tie.spec
-    slice-aggregate-starts-with
-    starts-with-requires
+    (λ c. search needs)  -- slice-aggregate-starts-with
+    (λ c κs. search needs)  -- starts-with-requires
     sub-trim
     part-trim-start
-    part-trim-end
-    trim-requires
-    section-name-len-requires
+    (λ c. search needs)  -- part-trim-end
+    (λ c κs. search needs)  -- trim-requires
+    (λ c κs. search needs)  -- section-name-len-requires
     slice-aggregate-section-of
-    section-of-requires
+    (λ c κs. search needs)  -- section-of-requires
     returns
-    section-of-requires-2
+    (λ c κs. search needs)  -- section-of-requires-2
     returns-2)

@@ -4,8 +4,9 @@ use mathlib.Core.Path.{_≡_}
 use native.Mathlib.Omega.{arith}
 use lib.ListN.{length, drop}
 use denote.Ref.{now}
-use Rattle.layout.specs.Statements.{countBefore, endsSectionName}
-use Rattle.layout.proofs.Parted.{count-more, count-stop, count-end}
+use Rattle.layout.specs.Bytes.{countBefore}
+use Rattle.layout.specs.Statements.{endsSectionName}
+use Rattle.layout.proofs.SpanLaws.{count-more, count-stop, count-end}
 use borrow.Author.Needs.{needs}
 use Rattle.layout.proofs.line.section_name_len.Statement.{statement}
 use Rattle.layout.proofs.line.section_name_len.Tie as tie

@@ -3,7 +3,7 @@ use mathlib.Core.Path.{sym, _∙_, refl}
 use borrow.Author.Tests.{eq-eqb, ne-eqb}
 use Rattle.layout.specs.Statements.{sectionOf}
 use Rattle.numbers.proofs.Trims.{tail}
-use Rattle.layout.proofs.Said.{dotted, undotted}
+use Rattle.layout.proofs.StatementLaws.{dotted, undotted}
 use borrow.Author.Needs.{needs}
 use Rattle.layout.proofs.line.section_of.Statement.{statement}
 use Rattle.layout.proofs.line.section_of.Tie as tie
@@ -12,30 +12,9 @@ returns : tie.Need-returns
 unfolding sectionOf
 returns c = rw (eq-eqb _ _ (c .if1 .taken)) refl
 
-slice-aggregate-same-bytes : tie.Need-slice-aggregate-same-bytes
-slice-aggregate-same-bytes c = search needs
-
-same-bytes-requires : tie.Need-same-bytes-requires
-same-bytes-requires c κs = search needs
-
 returns-2 : tie.Need-returns-2
 unfolding sectionOf
 returns-2 c = rw (ne-eqb _ _ (c .before .before .before .if1 .left), ← c .before .same-bytes .ensures, c .if2 .taken) refl
-
-first-is-requires : tie.Need-first-is-requires
-first-is-requires c κs = search needs
-
-sub-section-named : tie.Need-sub-section-named
-sub-section-named c = search needs
-
-part-section-named-start : tie.Need-part-section-named-start
-part-section-named-start c = search needs
-
-part-section-named-end : tie.Need-part-section-named-end
-part-section-named-end c = search needs
-
-section-named-requires : tie.Need-section-named-requires
-section-named-requires c κs = search needs
 
 returns-3 : tie.Need-returns-3
 unfolding sectionOf
@@ -43,9 +22,6 @@ returns-3 c =
     let at = c .before .before .before .before in
     let dot = dotted _ (sym (c .before .before .before .first-is .ensures) ∙ c .before .before .if3 .taken) in
     rw (c .section-named .ensures, tail, ne-eqb _ _ (at .before .before .before .if1 .left), ← at .before .same-bytes .ensures, at .if2 .left, dot) refl
-
-section-named-requires-2 : tie.Need-section-named-requires-2
-section-named-requires-2 c κs = search needs
 
 returns-4 : tie.Need-returns-4
 unfolding sectionOf
@@ -59,14 +35,14 @@ section-of-spec =
     tie.close
     (tie.spec
     returns
-    slice-aggregate-same-bytes
-    same-bytes-requires
+    (λ c. search needs)  -- slice-aggregate-same-bytes
+    (λ c κs. search needs)  -- same-bytes-requires
     returns-2
-    first-is-requires
-    sub-section-named
-    part-section-named-start
-    part-section-named-end
-    section-named-requires
+    (λ c κs. search needs)  -- first-is-requires
+    (λ c. search needs)  -- sub-section-named
+    (λ c. search needs)  -- part-section-named-start
+    (λ c. search needs)  -- part-section-named-end
+    (λ c κs. search needs)  -- section-named-requires
     returns-3
-    section-named-requires-2
+    (λ c κs. search needs)  -- section-named-requires-2
     returns-4)

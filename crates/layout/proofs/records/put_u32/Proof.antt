@@ -4,64 +4,39 @@ use native.Mathlib.Omega.{arith}
 use native.Mathlib.Numerals.{add-one, add-two, add-three}
 use lib.ListN.{length-set}
 use lib.Seq.{sets-eq}
-use Rattle.layout.specs.Directives.{le}
+use Rattle.layout.specs.Bytes.{le}
 use Rattle.layout.proofs.records.put_u32.Statement.{statement}
 use Rattle.layout.proofs.records.put_u32.Tie as tie
-
-cast-buf : tie.Need-cast-buf
-cast-buf c = search needs
-
-slice-write-buf : tie.Need-slice-write-buf
-slice-write-buf c = search needs
-
-cast-buf-2 : tie.Need-cast-buf-2
-cast-buf-2 c = search needs
-
-add-buf : tie.Need-add-buf
-add-buf c = search needs
 
 slice-write-buf-2 : tie.Need-slice-write-buf-2
 slice-write-buf-2 c = simp length-set (omega arith)
 
-cast-buf-3 : tie.Need-cast-buf-3
-cast-buf-3 c = search needs
-
-add-buf-2 : tie.Need-add-buf-2
-add-buf-2 c = search needs
-
 slice-write-buf-3 : tie.Need-slice-write-buf-3
 slice-write-buf-3 c = simp length-set (omega arith)
-
-cast-buf-4 : tie.Need-cast-buf-4
-cast-buf-4 c = search needs
-
-add-buf-3 : tie.Need-add-buf-3
-add-buf-3 c = search needs
 
 slice-write-buf-4 : tie.Need-slice-write-buf-4
 slice-write-buf-4 c = simp length-set (omega arith)
 
-same-length : tie.Need-same-length
-same-length c = search needs
-
 returns : tie.Need-returns
 unfolding le
-returns c = rw (add-one (c .args .at), add-two (c .args .at), add-three (c .args .at)) (sets-eq (le 4 (c .args .v)) (c .args .buf .now) (c .args .at) (c .pre))
+returns c =
+    rw (add-one (c .args .at), add-two (c .args .at), add-three (c .args .at))
+    (sets-eq (le 4 (c .args .v)) (c .args .buf .now) (c .args .at) (c .pre))
 
 pub put-u32-spec : {M : Type 1} → statement M
 put-u32-spec =
     tie.close
     (tie.spec
-    cast-buf
-    slice-write-buf
-    cast-buf-2
-    add-buf
+    (λ c. search needs)  -- cast-buf
+    (λ c. search needs)  -- slice-write-buf
+    (λ c. search needs)  -- cast-buf-2
+    (λ c. search needs)  -- add-buf
     slice-write-buf-2
-    cast-buf-3
-    add-buf-2
+    (λ c. search needs)  -- cast-buf-3
+    (λ c. search needs)  -- add-buf-2
     slice-write-buf-3
-    cast-buf-4
-    add-buf-3
+    (λ c. search needs)  -- cast-buf-4
+    (λ c. search needs)  -- add-buf-3
     slice-write-buf-4
-    same-length
+    (λ c. search needs)  -- same-length
     returns)

@@ -1,72 +1,123 @@
--- `stage::own_line`: the section that the counters name has its own rule, and the callee's answer agrees with it.
+-- `stage::own_line`: the part that a statement's rule writes steps, and the others stay.
+use mathlib.Core.Path.{ap}
+use Rattle.layout.specs.Stage.{ownLine}
+use Rattle.layout.specs.code.Stands.{countOf, itemsOf, dataOf}
+use Rattle.layout.proofs.StageLaws.{items-go, items-stopped, stored-go, stored-stopped, bss-go, bss-stopped}
 use borrow.Author.Needs.{needs}
-use Rattle.layout.specs.Stands.{store}
 use Rattle.layout.proofs.stage.own_line.Statement.{statement}
 use Rattle.layout.proofs.stage.own_line.Tie as tie
 
-enum-told : tie.Need-enum-told
-enum-told c = search needs
-
 text-line-requires : tie.Need-text-line-requires
-text-line-requires c κs = search needs
+text-line-requires c κs =
+    let s = c .before .before .before .before .before .before .before .before .before .before in
+    (record { it = s .pre .0 .it .items; stands = s .pre .0 .stands .items }, s .pre .1, rw (c .before .before .statement .given .1) at (s .pre .2))
 
-enum-told-2 : tie.Need-enum-told-2
-enum-told-2 c = search needs
+store-line-requires : tie.Need-store-line-requires
+store-line-requires c κs =
+    let s = c .before .before .before .before .before .before .before .before .before .before .before in
+    let w = rw (c .before .before .before .statement2 .given .1) at (s .pre .2) in
+    (record { it = s .pre .0 .it .stored; stands = s .pre .0 .stands .stored }, s .pre .1, w .1, w .0)
 
-data-line-requires : tie.Need-data-line-requires
-data-line-requires c κs = search needs
-
-enum-told-3 : tie.Need-enum-told-3
-enum-told-3 c = search needs
-
-span-bytes-requires : tie.Need-span-bytes-requires
-span-bytes-requires c κs = search needs
+reserve-line-requires : tie.Need-reserve-line-requires
+reserve-line-requires c κs =
+    let s = c .before .before .before .before .before .before .before .before .before .before .before in
+    (record { it = s .pre .0 .it .stored; stands = s .pre .0 .stands .stored }, s .pre .1)
 
 bss-line-requires : tie.Need-bss-line-requires
-bss-line-requires c κs = search needs
-
-same-length : tie.Need-same-length
-same-length c = search needs
+bss-line-requires c κs = c .before .before .before .before .before .before .before .before .before .before .pre .0 .stands .bss-limit
 
 returns : tie.Need-returns
-returns c = λ l e x k σ w h.
-    let s = c .before .before .before .before .before .before .before .before .before .before in
-    rw (c .before .before .before .before .enum-told .given .1)
-    (c .before .before .text-line .ensures l e x (s .args .image .now) (s .args .fixups .now) k σ w h)
-
-same-length-2 : tie.Need-same-length-2
-same-length-2 c = search needs
-
-same-length-3 : tie.Need-same-length-3
-same-length-3 c = search needs
+unfolding ownLine
+returns c =
+    let m = c .before .before .before .before .before in
+    rw (m .before .before .before .statement .given .1)
+    (items-go _ _ _ _ _ _ _ _ (m .text-line .ensures) _ (ap itemsOf (c .before .items2 .given .1)))
 
 returns-2 : tie.Need-returns-2
-returns-2 c = λ l e x k σ w h.
-    let s = c .before .before .before .before .before .before .before .before .before .before .before .before .before in
-    rw (c .before .before .before .before .before .before .before .enum-told2 .given .1)
-    (c .before .before .before .before .data-line .ensures (s .args .room) l e x (s .args .items .now) k σ w h)
+unfolding ownLine
+returns-2 c =
+    let m = c .before .before .before .before .before in
+    rw (m .before .before .before .statement .given .1)
+    (items-stopped _ _ _ _ _ _ _ _ (m .text-line .ensures) _ (ap itemsOf (c .before .n .given .1)))
 
 returns-3 : tie.Need-returns-3
-returns-3 c = λ l e x k σ w h.
-    let s = c .before .before .before .before .before .before .before .before in
-    rw (c .before .before .enum-told3 .given .1, ← c .before .span-bytes .ensures)
-    (c .bss-line .ensures (s .args .text .now) (s .args .room) (s .args .line)
-    (store l e x (s .args .items .now) (s .args .image .now) (s .args .fixups .now)) k σ w h)
+unfolding ownLine
+returns-3 c =
+    let m = c .before .before .before .before .before .before .before in
+    rw (m .before .before .before .before .statement2 .given .1)
+    (stored-go _ _ _ _ _ _ _ _ (m .store-line .ensures) _ (ap dataOf (c .before .stored2 .given .1)))
+
+returns-4 : tie.Need-returns-4
+unfolding ownLine
+returns-4 c =
+    let m = c .before .before .before .before .before .before .before in
+    rw (m .before .before .before .before .statement2 .given .1)
+    (stored-stopped _ _ _ _ _ _ _ _ (m .store-line .ensures) _ (ap dataOf (c .before .n2 .given .1)))
+
+returns-5 : tie.Need-returns-5
+unfolding ownLine
+returns-5 c =
+    let m = c .before .before .before .before .before .before .before in
+    rw (m .before .before .before .before .statement3 .given .1)
+    (stored-go _ _ _ _ _ _ _ _ (m .reserve-line .ensures) _ (ap dataOf (c .before .stored3 .given .1)))
+
+returns-6 : tie.Need-returns-6
+unfolding ownLine
+returns-6 c =
+    let m = c .before .before .before .before .before .before .before in
+    rw (m .before .before .before .before .statement3 .given .1)
+    (stored-stopped _ _ _ _ _ _ _ _ (m .reserve-line .ensures) _ (ap dataOf (c .before .n3 .given .1)))
+
+returns-7 : tie.Need-returns-7
+unfolding ownLine
+returns-7 c =
+    let m = c .before .before .before in
+    rw (m .before .before .before .statement4 .given .1)
+    (bss-go _ _ _ _ _ _ (rw (m .before .span-bytes .ensures) at (m .bss-line .ensures)) _ (ap countOf (c .before .bss .given .1)))
+
+returns-8 : tie.Need-returns-8
+unfolding ownLine
+returns-8 c =
+    let m = c .before .before .before in
+    rw (m .before .before .before .statement4 .given .1)
+    (bss-stopped _ _ _ _ _ _ (rw (m .before .span-bytes .ensures) at (m .bss-line .ensures)) _ (ap countOf (c .before .n4 .given .1)))
 
 pub own-line-spec : {M : Type 1} → statement M
 own-line-spec =
     tie.close
     (tie.spec
-    enum-told
+    (λ c. search needs)  -- enum-known-statement
     text-line-requires
-    enum-told-2
-    data-line-requires
-    enum-told-3
-    span-bytes-requires
+    (λ c. search needs)  -- enum-known-items
+    (λ c. search needs)  -- enum-known-n
+    (λ c. search needs)  -- enum-known-statement-2
+    store-line-requires
+    (λ c. search needs)  -- enum-known-stored
+    (λ c. search needs)  -- enum-known-n-2
+    (λ c. search needs)  -- enum-known-statement-3
+    reserve-line-requires
+    (λ c. search needs)  -- enum-known-stored-2
+    (λ c. search needs)  -- enum-known-n-3
+    (λ c. search needs)  -- enum-known-statement-4
+    (λ c κs. search needs)  -- span-bytes-requires
     bss-line-requires
-    same-length
+    (λ c. search needs)  -- enum-known-bss
+    (λ c. search needs)  -- enum-known-n-4
+    (λ c. search needs)  -- same-length
     returns
-    same-length-2
-    same-length-3
+    (λ c. search needs)  -- same-length-2
     returns-2
-    returns-3)
+    (λ c. search needs)  -- same-length-3
+    (λ c. search needs)  -- same-length-4
+    returns-3
+    (λ c. search needs)  -- same-length-5
+    (λ c. search needs)  -- same-length-6
+    returns-4
+    (λ c. search needs)  -- same-length-7
+    (λ c. search needs)  -- same-length-8
+    returns-5
+    (λ c. search needs)  -- same-length-9
+    (λ c. search needs)  -- same-length-10
+    returns-6
+    returns-7
+    returns-8)

@@ -1,102 +1,100 @@
--- `stage::says`: each kind of statement, by its callee; the counters' section is that of what they stand for.
-use borrow.Author.Needs.{needs}
-use mathlib.Core.Path.{refl}
+-- `stage::says`: the part that a statement is about steps, and the others stay.
+use mathlib.Core.Path.{refl, ap}
 use Rattle.layout.specs.Stage.{says}
-use Rattle.layout.proofs.Turns.{enters-stands}
+use Rattle.layout.specs.code.Stands.{countOf, ownOf}
+use Rattle.layout.proofs.StageLaws.{words-few, place-fits, enters-goes, equate-go, equate-stopped, own-go, own-stopped}
+use borrow.Author.Needs.{needs}
 use Rattle.layout.proofs.stage.says.Statement.{statement}
 use Rattle.layout.proofs.stage.says.Tie as tie
 
-enum-told : tie.Need-enum-told
-enum-told c = search needs
-
-enum-known-statement : tie.Need-enum-known-statement
-enum-known-statement c = search needs
-
-entered-requires : tie.Need-entered-requires
-entered-requires c κs = search needs
-
-enum-known-statement-2 : tie.Need-enum-known-statement-2
-enum-known-statement-2 c = search needs
+place-requires : tie.Need-place-requires
+place-requires c κs =
+    words-few (c .before .before .before .before .before .before .before .before .before .before .before .before .pre .0 .stands .own)
 
 add-equate-requires : tie.Need-add-equate-requires
 add-equate-requires c κs =
-    let h = rw (c .before .before .before .statement2 .given .1) at (c .before .before .before .before .before .before .before .before .before .before .before .pre .4) in
-    search needs
-
-enum-known-statement-3 : tie.Need-enum-known-statement-3
-enum-known-statement-3 c = search needs
+    let s = c .before .before .before .before .before .before .before .before .before .before .before .before .before in
+    let w = rw (c .before .before .before .before .statement2 .given .1) at (s .pre .2) in
+    (record { it = s .pre .0 .it .equates; stands = s .pre .0 .stands .equates }, rw (c .place .ensures) (place-fits (s .pre .0 .stands .own)), s .pre .1, w .0, w .1)
 
 own-line-requires : tie.Need-own-line-requires
 own-line-requires c κs =
-    let h = rw (c .before .before .before .before .statement3 .given .1) at (c .before .before .before .before .before .before .before .before .before .before .before .before .pre .4) in
-    search needs
-
-enum-known-statement-4 : tie.Need-enum-known-statement-4
-enum-known-statement-4 c = search needs
+    let s = c .before .before .before .before .before .before .before .before .before .before .before .before .before in
+    (record { it = s .pre .0 .it .own; stands = s .pre .0 .stands .own }, s .pre .1, rw (c .before .before .before .before .statement3 .given .1) at (s .pre .2))
 
 returns : tie.Need-returns
 unfolding says
-returns c = λ l k σ w h. rw (c .enum-told .given .1) h
+returns c = λ σ s. rw (c .enum-told .given .1) s
 
 returns-2 : tie.Need-returns-2
 unfolding says
-returns-2 c = λ l k σ w h.
-    let s = c .before .before .before .before .before .before .before .before .before .before in
+returns-2 c =
     rw (c .before .before .statement .given .1, c .entered .ensures)
-    (enters-stands (s .args .text .now) k (s .args .line) _ (c .before .before .statement .given .0 .0) (s .args .st) σ h)
-
-same-length : tie.Need-same-length
-same-length c = search needs
-
-same-length-2 : tie.Need-same-length-2
-same-length-2 c = search needs
+    (enters-goes _ _ _ (c .before .before .before .before .before .before .before .before .before .before .before .args .line) _ _)
 
 returns-3 : tie.Need-returns-3
 unfolding says
-returns-3 c = λ l k σ w h.
-    let s = c .before .before .before .before .before .before .before .before .before .before .before .before .before .before .before .before in
-    rw (c .before .before .before .before .before .before .before .before .statement2 .given .1)
-    (c .before .before .before .before .add-equate .ensures (s .args .room) l (s .args .items .now) (s .args .image .now) (s .args .fixups .now) k σ w h)
-
-same-length-3 : tie.Need-same-length-3
-same-length-3 c = search needs
-
-same-length-4 : tie.Need-same-length-4
-same-length-4 c = search needs
-
-same-length-5 : tie.Need-same-length-5
-same-length-5 c = search needs
+returns-3 c =
+    let m = c .before .before .before .before .before .before .before in
+    rw (m .before .before .before .before .before .statement2 .given .1)
+    (equate-go _ _ _ _ _ _ _ _ _ (m .before .place .ensures) _ (m .add-equate .ensures) _ (ap countOf (c .before .equates2 .given .1)))
 
 returns-4 : tie.Need-returns-4
 unfolding says
-returns-4 c = λ l k σ w h.
-    let s = c .before .before .before .before .before .before .before .before .before .before .before .before .before .before .before .before .before .before .before in
-    rw (c .before .before .before .before .before .before .before .before .before .before .before .statement3 .given .1)
-    (rw (h .section) at (c .before .before .before .before .before .before .own-line .ensures l (s .args .equates .now) (s .args .expressions .now) k σ w h))
+returns-4 c =
+    let m = c .before .before .before .before .before .before .before in
+    rw (m .before .before .before .before .before .statement2 .given .1)
+    (equate-stopped _ _ _ _ _ _ _ _ _ (m .before .place .ensures) _ (m .add-equate .ensures) _ (ap countOf (c .before .n .given .1)))
 
 returns-5 : tie.Need-returns-5
 unfolding says
-returns-5 c = λ l k σ w h. rw (c .before .statement4 .given .1) (refl, refl)
+returns-5 c =
+    let m = c .before .before .before .before .before .before .before .before .before in
+    rw (m .before .before .before .before .before .statement3 .given .1)
+    (own-go _ _ _ _ _ _ _ _ _ (m .own-line .ensures) _ (ap ownOf (c .before .own2 .given .1)))
+
+returns-6 : tie.Need-returns-6
+unfolding says
+returns-6 c =
+    let m = c .before .before .before .before .before .before .before .before .before in
+    rw (m .before .before .before .before .before .statement3 .given .1)
+    (own-stopped _ _ _ _ _ _ _ _ _ (m .own-line .ensures) _ (ap ownOf (c .before .n2 .given .1)))
+
+returns-7 : tie.Need-returns-7
+unfolding says
+returns-7 c = λ σ s. rw (c .before .statement4 .given .1) refl
 
 pub says-spec : {M : Type 1} → statement M
 says-spec =
     tie.close
     (tie.spec
-    enum-told
-    enum-known-statement
-    entered-requires
-    enum-known-statement-2
+    (λ c. search needs)  -- enum-told
+    (λ c. search needs)  -- enum-known-statement
+    (λ c κs. search needs)  -- entered-requires
+    (λ c. search needs)  -- enum-known-statement-2
+    place-requires
     add-equate-requires
-    enum-known-statement-3
+    (λ c. search needs)  -- enum-known-equates
+    (λ c. search needs)  -- enum-known-n
+    (λ c. search needs)  -- enum-known-statement-3
     own-line-requires
-    enum-known-statement-4
+    (λ c. search needs)  -- enum-known-own
+    (λ c. search needs)  -- enum-known-n-2
+    (λ c. search needs)  -- enum-known-statement-4
     returns
     returns-2
-    same-length
-    same-length-2
+    (λ c. search needs)  -- same-length
+    (λ c. search needs)  -- same-length-2
     returns-3
-    same-length-3
-    same-length-4
-    same-length-5
+    (λ c. search needs)  -- same-length-3
+    (λ c. search needs)  -- same-length-4
     returns-4
-    returns-5)
+    (λ c. search needs)  -- same-length-5
+    (λ c. search needs)  -- same-length-6
+    (λ c. search needs)  -- same-length-7
+    returns-5
+    (λ c. search needs)  -- same-length-8
+    (λ c. search needs)  -- same-length-9
+    (λ c. search needs)  -- same-length-10
+    returns-6
+    returns-7)

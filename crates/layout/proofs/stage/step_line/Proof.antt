@@ -1,123 +1,89 @@
--- `stage::step_line`: the label first, and from the state that it leaves, what the statement says.
+-- `stage::step_line`: the label's step, then what the line says.
+use mathlib.Core.Path.{ap}
+use denote.Ref.{now}
+use Rattle.layout.specs.code.Stands.{countOf, restOf}
+use Rattle.layout.proofs.StageLaws.{words-few, place-fits, line-label-within, line-says-within, label-stopped, rest-stopped, line-goes}
 use borrow.Author.Needs.{needs}
-use mathlib.Core.Path.{_≡_}
-use Rattle.layout.specs.Stage.{Lent, State, Move, addLabel}
-use Rattle.layout.specs.Spans.{labelAt}
-use Rattle.layout.specs.Stands.{Store, store, Stands, Agrees}
-use Rattle.layout.proofs.Standing.{stands-bounded}
-use Rattle.layout.proofs.Turns.{line-label-within, line-says-within, go-bounded, labelled-says, label-stops}
 use Rattle.layout.proofs.stage.step_line.Statement.{statement}
 use Rattle.layout.proofs.stage.step_line.Tie as tie
 
--- where the label has been put: the function's start, the buffers, the definition's move
-abbrev start-of : tie.After-label-step → tie.Start
-start-of d = d .before .before .before .before .before .before .before .before .before .before
-
-abbrev left : tie.After-label-step → Store
-left d =
-    let s = start-of d in
-    store (d .label-step .last .1 .0) (s .args .equates .now) (s .args .expressions .now) (s .args .items .now) (s .args .image .now) (s .args .fixups .now)
-
-abbrev adds : tie.After-label-step → Lent → State → Move
-adds d k σ = let s = start-of d in addLabel k (s .args .line) (labelAt (s .args .text .now) (d .before .before .line-of .result .label)) σ
-
--- and what label_step ensures of a state that the counters stand for
-added : (d : tie.After-label-step) (k : Lent) (σ : State) → k .words ≡ start-of d .args .room
-    → (let s = start-of d in
-    Stands (s .args .text .now) k (s .args .st)
-    (store (s .args .labels .now) (s .args .equates .now) (s .args .expressions .now) (s .args .items .now) (s .args .image .now) (s .args .fixups .now)) σ)
-    → Agrees (start-of d .args .text .now) k (start-of d .args .line) (left d) (d .label-step .result) (adds d k σ)
-added d k σ w h =
-    let s = start-of d in
-    d .label-step .ensures (s .args .room) (s .args .equates .now) (s .args .expressions .now) (s .args .items .now) (s .args .image .now) (s .args .fixups .now) k σ w h
-
-line-of-requires : tie.Need-line-of-requires
-line-of-requires c κs = search needs
+place-requires : tie.Need-place-requires
+place-requires c κs = words-few (c .before .before .before .before .before .before .before .before .before .before .before .pre .0 .stands .rest .own)
 
 label-step-requires : tie.Need-label-step-requires
 label-step-requires c κs =
-    let s = c .before .before .before .before .before .before .before .before .before in
-    let r = s .pre .0 in (
-      stands-bounded (s .args .text .now) (r .lent) (s .args .st) _ (r .state) (r .stands),
-      search needs,
-      s .pre .4,
-      line-label-within (s .args .text .now) (s .args .part) (s .pre .5) (c .before .line-of .result) (c .before .line-of .ensures),
+    let s = c .before .before .before .before .before .before .before .before .before .before .before .before in
+    let a = s .args in (
+      record { it = s .pre .0 .it .labels; stands = s .pre .0 .stands .labels },
+      rw (c .place .ensures) (place-fits (s .pre .0 .stands .rest .own)),
+      s .pre .1,
+      line-label-within (now (a .text)) (a .at) (a .end) (s .pre .2) (s .pre .3) (a .st .rest .own .section)
+          (c .before .before .line-of .result) (c .before .before .line-of .ensures),
     )
-
-enum-known-labelled : tie.Need-enum-known-labelled
-enum-known-labelled c = search needs
 
 says-requires : tie.Need-says-requires
 says-requires c κs =
-    let d = c .before .before .before .before .before .before .before .before .before .before in
-    let s = start-of d in
-    let r = s .pre .0 in (
-      go-bounded (s .args .text .now) (r .lent) (s .args .line) (left d) (c .before .before .before .before .before .before .labelled .given .0 .0) (d .label-step .result) (adds d (r .lent) (r .state))
-          (c .before .before .before .before .before .before .labelled .given .1) (added d (r .lent) (r .state) (r .words) (r .stands)),
-      search needs,
-      search needs,
-      s .pre .4,
-      line-says-within (s .args .text .now) (s .args .part) (s .pre .5) (d .before .before .line-of .result) (d .before .before .line-of .ensures),
+    let s = c .before .before .before .before .before .before .before .before .before .before .before .before .before .before .before .before .before .before .before .before .before .before .before in
+    let a = s .args in
+    let l = c .before .before .before .before .before .before .before .before .before .before .before .before .before in (
+      record { it = s .pre .0 .it .rest; stands = s .pre .0 .stands .rest },
+      s .pre .1,
+      line-says-within (now (a .text)) (a .at) (a .end) (s .pre .2) (s .pre .3) (a .st .rest .own .section) (l .line-of .result)
+          (l .line-of .ensures),
     )
 
-enum-known-n : tie.Need-enum-known-n
-enum-known-n c = search needs
-
-same-length : tie.Need-same-length
-same-length c = search needs
-
-same-length-2 : tie.Need-same-length-2
-same-length-2 c = search needs
-
-same-length-3 : tie.Need-same-length-3
-same-length-3 c = search needs
-
-same-length-4 : tie.Need-same-length-4
-same-length-4 c = search needs
-
-same-length-5 : tie.Need-same-length-5
-same-length-5 c = search needs
-
-same-length-6 : tie.Need-same-length-6
-same-length-6 c = search needs
-
 returns : tie.Need-returns
-returns c = λ k σ w h.
-    let v = c .before .before .before .before .before .before .before .before .before .before in
-    let a = v .before .before .before .before .before .before .before in
-    let d = a .before .before .before .before in
-    let s = start-of d in
-    labelled-says (s .args .text .now) (s .args .part) (s .pre .5) (d .before .before .line-of .result) (d .before .before .line-of .ensures)
-    k (s .args .line) σ (left d)
-    (store (d .label-step .last .1 .0) (v .says .last .1 .0) (v .says .last .1 .1 .0) (v .says .last .1 .1 .1 .0) (v .says .last .1 .1 .1 .1 .0) (v .says .last .1 .1 .1 .1 .1 .0))
-    (a .labelled .given .0 .0) (d .label-step .result) (v .says .result) (a .labelled .given .1) (added d k σ w h)
-    (λ τ g. v .says .ensures (d .label-step .last .1 .0) k τ w g)
-
-same-length-7 : tie.Need-same-length-7
-same-length-7 c = search needs
+returns c =
+    let m = c .before .before .before .before .before .before .before .before .before .before .before .before .before in
+    let b = m .before .before .before .before .before .before .before .before .before .before .before in
+    let s = b .before .before .before .before .before .before .before .before .before .before .before .before .before in
+    line-goes _ _ _ _ _ _ _ _ (s .pre .2) (s .pre .3) _ (b .before .before .before .line-of .ensures) _ (b .before .place .ensures) _
+    (b .label-step .ensures)
+    _ (ap countOf (m .before .before .before .before .before .before .before .count .given .1)) _ (m .says .ensures) _
+    (ap restOf (c .before .rest2 .given .1))
 
 returns-2 : tie.Need-returns-2
-returns-2 c = λ k σ w h.
-    let d = c .before .before .before .before .before in
-    let s = start-of d in
-    label-stops (s .args .text .now) (s .args .part) (s .pre .5) (d .before .before .line-of .result) (d .before .before .line-of .ensures)
-    k (s .args .line) σ (left d) (left d) (c .before .n .given .0 .0) (d .label-step .result) (c .before .n .given .1) (added d k σ w h)
+returns-2 c =
+    let m = c .before .before .before .before .before .before .before .before .before .before .before .before .before in
+    let b = m .before .before .before .before .before .before .before .before .before .before .before in
+    let s = b .before .before .before .before .before .before .before .before .before .before .before .before .before in
+    rest-stopped _ _ _ _ _ _ _ _ (s .pre .2) (s .pre .3) _ (b .before .before .before .line-of .ensures) _ (b .before .place .ensures) _
+    (b .label-step .ensures)
+    _ (ap countOf (m .before .before .before .before .before .before .before .count .given .1)) _ (m .says .ensures) _
+    (ap restOf (c .before .n .given .1))
+
+returns-3 : tie.Need-returns-3
+returns-3 c =
+    let b = c .before .before .before .before .before in
+    let s = b .before .before .before .before .before .before .before .before .before .before .before .before .before in
+    label-stopped _ _ _ _ _ _ _ _ (s .pre .2) (s .pre .3) _ (b .before .before .before .line-of .ensures) _ (b .before .place .ensures) _
+    (b .label-step .ensures) _ (ap countOf (c .before .n2 .given .1))
 
 pub step-line-spec : {M : Type 1} → statement M
 step-line-spec =
     tie.close
     (tie.spec
-    line-of-requires
+    (λ c κs. search needs)  -- line-of-requires
+    place-requires
     label-step-requires
-    enum-known-labelled
+    (λ c. search needs)  -- enum-known-count
     says-requires
-    enum-known-n
-    same-length
-    same-length-2
-    same-length-3
-    same-length-4
-    same-length-5
-    same-length-6
+    (λ c. search needs)  -- enum-known-rest
+    (λ c. search needs)  -- enum-known-n
+    (λ c. search needs)  -- enum-known-n-2
+    (λ c. search needs)  -- same-length
+    (λ c. search needs)  -- same-length-2
+    (λ c. search needs)  -- same-length-3
+    (λ c. search needs)  -- same-length-4
+    (λ c. search needs)  -- same-length-5
+    (λ c. search needs)  -- same-length-6
     returns
-    same-length-7
-    returns-2)
+    (λ c. search needs)  -- same-length-7
+    (λ c. search needs)  -- same-length-8
+    (λ c. search needs)  -- same-length-9
+    (λ c. search needs)  -- same-length-10
+    (λ c. search needs)  -- same-length-11
+    (λ c. search needs)  -- same-length-12
+    returns-2
+    (λ c. search needs)  -- same-length-13
+    returns-3)

@@ -6,7 +6,7 @@ use Prim.Native.Nat.{ℕ, _-_, _≤_}
 use native.Mathlib.Omega.{arith}
 use lib.ListN.{length, take, drop, length-set}
 use lib.Seq.{take-length}
-use Rattle.layout.proofs.Puts.{copied-more}
+use Rattle.layout.proofs.ByteLaws.{copied-more}
 use Rattle.layout.proofs.writers.put_bytes.Statement.{statement}
 use Rattle.layout.proofs.writers.put_bytes.Tie as tie
 

@@ -6,8 +6,8 @@ use Prim.Native.Nat.{_-_, _/_, _^_, _≤_}
 use native.Mathlib.Nat.{div-one}
 use native.Mathlib.Omega.{arith}
 use lib.ListN.{length, drop, length-set}
-use Rattle.layout.specs.Directives.{le}
-use Rattle.layout.proofs.Puts.{stored-more, left-more}
+use Rattle.layout.specs.Bytes.{le}
+use Rattle.layout.proofs.ByteLaws.{stored-more, left-more}
 use Rattle.layout.proofs.writers.put_number.Statement.{statement}
 use Rattle.layout.proofs.writers.put_number.Tie as tie
 

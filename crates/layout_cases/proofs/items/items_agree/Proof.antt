@@ -16,9 +16,6 @@ returns c = search needs
 loop-holds : tie.Need-loop-holds Inv-loop μ-loop
 loop-holds c = search needs
 
-mul-item-agrees : tie.Need-mul-item-agrees Inv-loop μ-loop
-mul-item-agrees c = search needs
-
 part-at-requires : tie.Need-part-at-requires Inv-loop μ-loop
 part-at-requires c κs = search needs
 
@@ -54,7 +51,6 @@ items-agree-spec =
     μ-loop
     returns
     loop-holds
-    mul-item-agrees
     part-at-requires
     item-agrees-requires
     returns-2

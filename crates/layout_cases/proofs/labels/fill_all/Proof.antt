@@ -7,19 +7,16 @@ use Rattle.layout_cases.proofs.labels.fill_all.Statement.{statement}
 use Rattle.layout_cases.proofs.labels.fill_all.Tie as tie
 
 abbrev Inv-loop : tie.InvT-loop
-Inv-loop text labels count starts image₀ fixups words k₀ image k = (k ≤ words) × (length image ≡ length image₀)
+Inv-loop text labels count starts data-bytes₀ label-words words k₀ data-bytes k = (k ≤ words) × (length data-bytes ≡ length data-bytes₀)
 
 abbrev μ-loop : tie.MeasureT-loop
-μ-loop text labels count starts image₀ fixups words k₀ image k = words - k
+μ-loop text labels count starts data-bytes₀ label-words words k₀ data-bytes k = words - k
 
 returns : tie.Need-returns Inv-loop μ-loop
 returns c = search needs
 
 loop-holds : tie.Need-loop-holds Inv-loop μ-loop
 loop-holds c = search needs
-
-mul-fill-one : tie.Need-mul-fill-one Inv-loop μ-loop
-mul-fill-one c = search needs
 
 fill-one-requires : tie.Need-fill-one-requires Inv-loop μ-loop
 fill-one-requires c κs = search needs
@@ -53,7 +50,6 @@ fill-all-spec =
     μ-loop
     returns
     loop-holds
-    mul-fill-one
     fill-one-requires
     same-length
     returns-2

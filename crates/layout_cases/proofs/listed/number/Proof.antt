@@ -2,7 +2,7 @@
 use mathlib.Core.Path.{sym, _∙_, ap}
 use native.Mathlib.Omega.{arith}
 use denote.Ref.{now}
-use Rattle.numbers.specs.Numbers.{digitsValue}
+use Rattle.numbers.specs.code.Meanings.{digitsValue}
 use Rattle.numbers.proofs.Values.{digits-within}
 use borrow.Author.Needs.{needs}
 use Rattle.layout_cases.proofs.listed.number.Statement.{statement}

@@ -6,6 +6,7 @@ use lib.ListN.{length, drop}
 use denote.Ref.{now}
 use borrow.Author.Needs.{needs}
 use Rattle.numbers.specs.Numbers.{digitsFrom, digitsOf}
+use Rattle.numbers.specs.code.Meanings.{baseOf}
 use Rattle.numbers.proofs.Values.{base-bounds, one-more, no-digit, too-large, quotient-above, quotient-within, digits-end, digits-none, digits-start}
 use Rattle.numbers.proofs.digits.parse_digits.Statement.{statement}
 use Rattle.numbers.proofs.digits.parse_digits.Tie as tie
@@ -32,77 +33,45 @@ fits c =
     let q = c .before .before .before .before .before .before in
     quotient-within _ _ _ (positive (q .before)) (rw (most-is q) at (c .if3 .left))
 
+-- what the definition gives from here on is what it gives of the text, in the radix's base
+gives : (c : tie.At-loop Inv-loop μ-loop) → let a = c .before .before .before .before .before .args in
+    digitsFrom (c .before .before .base .result) (a .limit) (c .loop .value) (drop (c .loop .i) (now (a .s))) ≡ digitsOf (baseOf (a .radix)) (a .limit) (now (a .s))
+gives c =
+    let a = c .before .before .before .before .before .args in
+    c .loop .inv .2 ∙ ap (λ (b : ℕ). digitsOf b (a .limit) (now (a .s))) (c .before .before .base .ensures)
+
 returns : tie.Need-returns Inv-loop μ-loop
 returns c = rw (digits-none _ _ _ (c .if1 .taken)) refl
-
-base-requires : tie.Need-base-requires Inv-loop μ-loop
-base-requires c κs = search needs
-
-quotient-requires : tie.Need-quotient-requires Inv-loop μ-loop
-quotient-requires c κs = search needs
 
 loop-holds : tie.Need-loop-holds Inv-loop μ-loop
 loop-holds c = (search needs, search needs, digits-start _ _ _ (c .before .before .if1 .left))
 
-shared-slice-read-digit : tie.Need-shared-slice-read-digit Inv-loop μ-loop
-shared-slice-read-digit c = search needs
-
-digit-requires : tie.Need-digit-requires Inv-loop μ-loop
-digit-requires c κs = search needs
-
 returns-2 : tie.Need-returns-2 Inv-loop μ-loop
 returns-2 c =
     let at = c .before .before .before .before in
-    let a = at .before .before .before .before .before .args in
-    let base = at .before .before .base .result in
-    let s = now (a .s) in
-    sym (no-digit base (a .limit) (at .loop .value) s (at .loop .i) _ (search needs) (c .before .digit .ensures) (c .if2 .taken))
-    ∙ at .loop .inv .2
-    ∙ ap (λ (b : ℕ). digitsOf b (a .limit) s) (at .before .before .base .ensures)
+    sym (no-digit _ _ _ _ (at .loop .i) _ (search needs) (c .before .digit .ensures) (c .if2 .taken)) ∙ gives at
 
 returns-3 : tie.Need-returns-3 Inv-loop μ-loop
 returns-3 c =
     let at = c .before .before .before .before .before in
-    let a = at .before .before .before .before .before .args in
-    let base = at .before .before .base .result in
-    let s = now (a .s) in
     let p = positive (at .before .before) in
-    sym (too-large base (a .limit) (at .loop .value) s (at .loop .i) _ (search needs) (c .before .before .digit .ensures) p (c .before .if2 .left) (quotient-above _ _ _ _ p (rw (most-is (at .before)) at (c .if3 .taken))))
-    ∙ at .loop .inv .2
-    ∙ ap (λ (b : ℕ). digitsOf b (a .limit) s) (at .before .before .base .ensures)
+    sym (too-large _ _ _ _ (at .loop .i) _ (search needs) (c .before .before .digit .ensures) p (c .before .if2 .left) (quotient-above _ _ _ _ p (rw (most-is (at .before)) at (c .if3 .taken)))) ∙ gives at
 
 mul-shifted : tie.Need-mul-shifted Inv-loop μ-loop
-mul-shifted c =
-    let k = fits c in
-    omega arith
+mul-shifted c = omega (arith, fits c)
 
 sub-if4 : tie.Need-sub-if4 Inv-loop μ-loop
-sub-if4 c =
-    let k = fits c in
-    omega arith
+sub-if4 c = omega (arith, fits c)
 
 returns-4 : tie.Need-returns-4 Inv-loop μ-loop
 returns-4 c =
     let at = c .before .before .before .before .before .before in
-    let a = at .before .before .before .before .before .args in
-    let base = at .before .before .base .result in
-    let s = now (a .s) in
     let p = positive (at .before .before) in
     let k = fits (c .before) in
-    sym (too-large base (a .limit) (at .loop .value) s (at .loop .i) _ (search needs) (c .before .before .before .digit .ensures) p (c .before .before .if2 .left) (omega arith))
-    ∙ at .loop .inv .2
-    ∙ ap (λ (b : ℕ). digitsOf b (a .limit) s) (at .before .before .base .ensures)
+    sym (too-large _ _ _ _ (at .loop .i) _ (search needs) (c .before .before .before .digit .ensures) p (c .before .before .if2 .left) (omega arith)) ∙ gives at
 
 add-value : tie.Need-add-value Inv-loop μ-loop
-add-value c =
-    let k = fits (c .before) in
-    omega arith
-
-add-i : tie.Need-add-i Inv-loop μ-loop
-add-i c = search needs
-
-loop-less : tie.Need-loop-less Inv-loop μ-loop
-loop-less c = search needs
+add-value c = omega (arith, fits (c .before))
 
 loop-again : tie.Need-loop-again Inv-loop μ-loop
 loop-again c =
@@ -119,10 +88,7 @@ loop-again c =
 returns-5 : tie.Need-returns-5 Inv-loop μ-loop
 returns-5 c =
     let at = c .before in
-    let a = at .before .before .before .before .before .args in
-    let base = at .before .before .base .result in
-    let s = now (a .s) in
-    sym (digits-end base (a .limit) (at .loop .value) s (at .loop .i) (c .loop-test .left) (at .loop .inv .1)) ∙ at .loop .inv .2 ∙ ap (λ (b : ℕ). digitsOf b (a .limit) s) (at .before .before .base .ensures)
+    sym (digits-end _ _ _ _ (at .loop .i) (c .loop-test .left) (at .loop .inv .1)) ∙ gives at
 
 pub parse-digits-spec : {M : Type 1} → statement M
 parse-digits-spec =
@@ -131,18 +97,18 @@ parse-digits-spec =
     Inv-loop
     μ-loop
     returns
-    base-requires
-    quotient-requires
+    (λ c κs. search needs)  -- base-requires
+    (λ c κs. search needs)  -- quotient-requires
     loop-holds
-    shared-slice-read-digit
-    digit-requires
+    (λ c. search needs)  -- shared-slice-read-digit
+    (λ c κs. search needs)  -- digit-requires
     returns-2
     returns-3
     mul-shifted
     sub-if4
     returns-4
     add-value
-    add-i
-    loop-less
+    (λ c. search needs)  -- add-i
+    (λ c. search needs)  -- loop-less
     loop-again
     returns-5)

@@ -4,24 +4,9 @@ use borrow.Author.Needs.{needs}
 use Rattle.numbers.proofs.imm.parse_imm64.Statement.{statement}
 use Rattle.numbers.proofs.imm.parse_imm64.Tie as tie
 
-trim-requires : tie.Need-trim-requires
-trim-requires c κs = search needs
-
-first-is-requires : tie.Need-first-is-requires
-first-is-requires c κs = search needs
-
-parse-char-lit-requires : tie.Need-parse-char-lit-requires
-parse-char-lit-requires c κs = search needs
-
-widened-requires : tie.Need-widened-requires
-widened-requires c κs = search needs
-
 returns : tie.Need-returns
 unfolding imm64Of literalOf
 returns c = simp (c .widened .ensures, c .before .parse-char-lit .ensures, ← c .before .before .before .before .trim .ensures, ← c .before .before .before .first-is .ensures, c .before .before .if1 .taken)
-
-trimmed-number-requires : tie.Need-trimmed-number-requires
-trimmed-number-requires c κs = search needs
 
 returns-2 : tie.Need-returns-2
 unfolding imm64Of literalOf
@@ -31,10 +16,10 @@ pub parse-imm64-spec : {M : Type 1} → statement M
 parse-imm64-spec =
     tie.close
     (tie.spec
-    trim-requires
-    first-is-requires
-    parse-char-lit-requires
-    widened-requires
+    (λ c κs. search needs)  -- trim-requires
+    (λ c κs. search needs)  -- first-is-requires
+    (λ c κs. search needs)  -- parse-char-lit-requires
+    (λ c κs. search needs)  -- widened-requires
     returns
-    trimmed-number-requires
+    (λ c κs. search needs)  -- trimmed-number-requires
     returns-2)

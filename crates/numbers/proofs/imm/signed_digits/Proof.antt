@@ -19,27 +19,15 @@ after-minus c = prefix-length (45 ∷ []) _ (sym (c .before .first-is .ensures) 
 after-plus : (c : tie.Then2) → 1 ≤ length (now (c .before .before .before .before .before .args .digits))
 after-plus c = prefix-length (43 ∷ []) _ (sym (c .before .first-is2 .ensures) ∙ c .if2 .taken)
 
-first-is-requires : tie.Need-first-is-requires
-first-is-requires c κs = search needs
-
 sub-negative : tie.Need-sub-negative
 sub-negative c = omega (arith, after-minus c)
 
 part-negative-start : tie.Need-part-negative-start
 part-negative-start c = omega (arith, after-minus c)
 
-part-negative-end : tie.Need-part-negative-end
-part-negative-end c = search needs
-
-negative-requires : tie.Need-negative-requires
-negative-requires c κs = search needs
-
 returns : tie.Need-returns
 unfolding signedDigits
 returns c = simp (c .negative .ensures, c .before .before .if1 .taken, ← c .before .before .before .first-is .ensures, tail)
-
-first-is-requires-2 : tie.Need-first-is-requires-2
-first-is-requires-2 c κs = search needs
 
 sub-positive : tie.Need-sub-positive
 sub-positive c = omega (arith, after-plus c)
@@ -47,18 +35,9 @@ sub-positive c = omega (arith, after-plus c)
 part-positive-start : tie.Need-part-positive-start
 part-positive-start c = omega (arith, after-plus c)
 
-part-positive-end : tie.Need-part-positive-end
-part-positive-end c = search needs
-
-positive-requires : tie.Need-positive-requires
-positive-requires c κs = search needs
-
 returns-2 : tie.Need-returns-2
 unfolding signedDigits
 returns-2 c = simp (c .positive .ensures, c .before .before .if2 .taken, ← c .before .before .before .first-is2 .ensures, c .before .before .before .before .if1 .left, ← c .before .before .before .before .before .first-is .ensures, tail)
-
-positive-requires-2 : tie.Need-positive-requires-2
-positive-requires-2 c κs = search needs
 
 returns-3 : tie.Need-returns-3
 unfolding signedDigits
@@ -68,17 +47,17 @@ pub signed-digits-spec : {M : Type 1} → statement M
 signed-digits-spec =
     tie.close
     (tie.spec
-    first-is-requires
+    (λ c κs. search needs)  -- first-is-requires
     sub-negative
     part-negative-start
-    part-negative-end
-    negative-requires
+    (λ c. search needs)  -- part-negative-end
+    (λ c κs. search needs)  -- negative-requires
     returns
-    first-is-requires-2
+    (λ c κs. search needs)  -- first-is-requires-2
     sub-positive
     part-positive-start
-    part-positive-end
-    positive-requires
+    (λ c. search needs)  -- part-positive-end
+    (λ c κs. search needs)  -- positive-requires
     returns-2
-    positive-requires-2
+    (λ c κs. search needs)  -- positive-requires-2
     returns-3)

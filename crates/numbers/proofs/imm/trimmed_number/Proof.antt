@@ -19,27 +19,15 @@ after-minus c = prefix-length (45 ∷ []) _ (sym (c .before .first-is .ensures) 
 after-plus : (c : tie.Then2) → 1 ≤ length (now (c .before .before .before .before .before .args .s))
 after-plus c = prefix-length (43 ∷ []) _ (sym (c .before .first-is2 .ensures) ∙ c .if2 .taken)
 
-first-is-requires : tie.Need-first-is-requires
-first-is-requires c κs = search needs
-
 sub-negated-number : tie.Need-sub-negated-number
 sub-negated-number c = omega (arith, after-minus c)
 
 part-negated-number-start : tie.Need-part-negated-number-start
 part-negated-number-start c = omega (arith, after-minus c)
 
-part-negated-number-end : tie.Need-part-negated-number-end
-part-negated-number-end c = search needs
-
-negated-number-requires : tie.Need-negated-number-requires
-negated-number-requires c κs = search needs
-
 returns : tie.Need-returns
 unfolding outerSigned
 returns c = simp (c .negated-number .ensures, c .before .before .if1 .taken, ← c .before .before .before .first-is .ensures, tail)
-
-first-is-requires-2 : tie.Need-first-is-requires-2
-first-is-requires-2 c κs = search needs
 
 sub-prefixed-number : tie.Need-sub-prefixed-number
 sub-prefixed-number c = omega (arith, after-plus c)
@@ -47,18 +35,9 @@ sub-prefixed-number c = omega (arith, after-plus c)
 part-prefixed-number-start : tie.Need-part-prefixed-number-start
 part-prefixed-number-start c = omega (arith, after-plus c)
 
-part-prefixed-number-end : tie.Need-part-prefixed-number-end
-part-prefixed-number-end c = search needs
-
-prefixed-number-requires : tie.Need-prefixed-number-requires
-prefixed-number-requires c κs = search needs
-
 returns-2 : tie.Need-returns-2
 unfolding outerSigned
 returns-2 c = simp (c .prefixed-number .ensures, c .before .before .if2 .taken, ← c .before .before .before .first-is2 .ensures, c .before .before .before .before .if1 .left, ← c .before .before .before .before .before .first-is .ensures, tail)
-
-prefixed-number-requires-2 : tie.Need-prefixed-number-requires-2
-prefixed-number-requires-2 c κs = search needs
 
 returns-3 : tie.Need-returns-3
 unfolding outerSigned
@@ -68,17 +47,17 @@ pub trimmed-number-spec : {M : Type 1} → statement M
 trimmed-number-spec =
     tie.close
     (tie.spec
-    first-is-requires
+    (λ c κs. search needs)  -- first-is-requires
     sub-negated-number
     part-negated-number-start
-    part-negated-number-end
-    negated-number-requires
+    (λ c. search needs)  -- part-negated-number-end
+    (λ c κs. search needs)  -- negated-number-requires
     returns
-    first-is-requires-2
+    (λ c κs. search needs)  -- first-is-requires-2
     sub-prefixed-number
     part-prefixed-number-start
-    part-prefixed-number-end
-    prefixed-number-requires
+    (λ c. search needs)  -- part-prefixed-number-end
+    (λ c κs. search needs)  -- prefixed-number-requires
     returns-2
-    prefixed-number-requires-2
+    (λ c κs. search needs)  -- prefixed-number-requires-2
     returns-3)

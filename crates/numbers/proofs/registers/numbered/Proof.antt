@@ -3,19 +3,10 @@ use mathlib.Core.Path.{sym, _∙_, ap}
 use native.Mathlib.Omega.{arith}
 use denote.Ref.{now}
 use borrow.Author.Needs.{needs}
-use Rattle.numbers.specs.Numbers.{digitsValue}
+use Rattle.numbers.specs.code.Meanings.{digitsValue}
 use Rattle.numbers.proofs.Values.{digits-within}
 use Rattle.numbers.proofs.registers.numbered.Statement.{statement}
 use Rattle.numbers.proofs.registers.numbered.Tie as tie
-
-parse-digits-requires : tie.Need-parse-digits-requires
-parse-digits-requires c κs = search needs
-
-enum-known-n : tie.Need-enum-known-n
-enum-known-n c = search needs
-
-enum-told : tie.Need-enum-told
-enum-told c = search needs
 
 returns : tie.Need-returns
 returns c = sym (ap digitsValue (c .enum-told .given .1)) ∙ c .before .before .parse-digits .ensures
@@ -31,4 +22,11 @@ returns-2 c = sym (ap digitsValue (c .before .n .given .1)) ∙ c .before .befor
 
 pub numbered-spec : {M : Type 1} → statement M
 numbered-spec =
-    tie.close (tie.spec parse-digits-requires enum-known-n enum-told returns cast-t5 returns-2)
+    tie.close
+    (tie.spec
+    (λ c κs. search needs)  -- parse-digits-requires
+    (λ c. search needs)  -- enum-known-n
+    (λ c. search needs)  -- enum-told
+    returns
+    cast-t5
+    returns-2)

@@ -2,26 +2,18 @@
 use mathlib.Core.Path.{refl}
 use native.Mathlib.Omega.{arith}
 use denote.Ref.{now}
-use Rattle.numbers.specs.Text.{isSpace, trimSpan}
+use Rattle.numbers.specs.Text.{isSpace}
+use Rattle.numbers.specs.code.Spans.{trimSpan}
 use Rattle.numbers.proofs.Trims.{leading-within, trim-steps}
 use borrow.Author.Needs.{needs}
 use Rattle.numbers.proofs.text.trim_span.Statement.{statement}
 use Rattle.numbers.proofs.text.trim_span.Tie as tie
-
-leading-spaces-requires : tie.Need-leading-spaces-requires
-leading-spaces-requires c κs = search needs
 
 sub-trim-end-len : tie.Need-sub-trim-end-len
 sub-trim-end-len c = omega (arith, c .leading-spaces .ensures, leading-within isSpace (now (c .before .before .args .s)))
 
 part-trim-end-len-start : tie.Need-part-trim-end-len-start
 part-trim-end-len-start c = omega (arith, c .leading-spaces .ensures, leading-within isSpace (now (c .before .before .args .s)))
-
-part-trim-end-len-end : tie.Need-part-trim-end-len-end
-part-trim-end-len-end c = search needs
-
-trim-end-len-requires : tie.Need-trim-end-len-requires
-trim-end-len-requires c κs = search needs
 
 returns : tie.Need-returns
 unfolding trimSpan
@@ -33,9 +25,9 @@ pub trim-span-spec : {M : Type 1} → statement M
 trim-span-spec =
     tie.close
     (tie.spec
-    leading-spaces-requires
+    (λ c κs. search needs)  -- leading-spaces-requires
     sub-trim-end-len
     part-trim-end-len-start
-    part-trim-end-len-end
-    trim-end-len-requires
+    (λ c. search needs)  -- part-trim-end-len-end
+    (λ c κs. search needs)  -- trim-end-len-requires
     returns)

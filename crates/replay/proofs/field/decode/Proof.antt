@@ -26,31 +26,10 @@ width c =
 loop-holds : tie.Need-loop-holds Inv-loop μ-loop
 loop-holds c = (search needs, refl, refl)
 
-same-length : tie.Need-same-length Inv-loop μ-loop
-same-length c = search needs
-
 returns : tie.Need-returns Inv-loop μ-loop
 returns c =
     let at = c .before .before .loop in
     (at .inv .0, rw (← at .inv .1) (full (at .out) (decoded (now (c .before .before .before .before .before .args .field))) _ (at .n) (at .inv .0) (c .if1 .taken) (at .inv .2)))
-
-sub-written-first : tie.Need-sub-written-first Inv-loop μ-loop
-sub-written-first c = search needs
-
-part-written-first-start : tie.Need-part-written-first-start Inv-loop μ-loop
-part-written-first-start c = search needs
-
-part-written-first-end : tie.Need-part-written-first-end Inv-loop μ-loop
-part-written-first-end c = search needs
-
-written-first-requires : tie.Need-written-first-requires Inv-loop μ-loop
-written-first-requires c κs = search needs
-
-slice-write-out : tie.Need-slice-write-out Inv-loop μ-loop
-slice-write-out c = search needs
-
-add-n : tie.Need-add-n Inv-loop μ-loop
-add-n c = search needs
 
 add-i : tie.Need-add-i Inv-loop μ-loop
 add-i c =
@@ -73,9 +52,6 @@ loop-again c =
       store-one (at .out) (at .n) _ _ (search needs) ∙ (rw (← step) (at .inv .2)),
     )
 
-same-length-2 : tie.Need-same-length-2 Inv-loop μ-loop
-same-length-2 c = search needs
-
 returns-2 : tie.Need-returns-2 Inv-loop μ-loop
 returns-2 c =
     let at = c .before .loop in
@@ -89,16 +65,16 @@ decode-spec =
     Inv-loop
     μ-loop
     loop-holds
-    same-length
+    (λ c. search needs)  -- same-length
     returns
-    sub-written-first
-    part-written-first-start
-    part-written-first-end
-    written-first-requires
-    slice-write-out
-    add-n
+    (λ c. search needs)  -- sub-written-first
+    (λ c. search needs)  -- part-written-first-start
+    (λ c. search needs)  -- part-written-first-end
+    (λ c κs. search needs)  -- written-first-requires
+    (λ c. search needs)  -- slice-write-out
+    (λ c. search needs)  -- add-n
     add-i
     loop-less
     loop-again
-    same-length-2
+    (λ c. search needs)  -- same-length-2
     returns-2)

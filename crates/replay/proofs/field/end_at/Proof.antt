@@ -6,13 +6,14 @@ use borrow.Author.Needs.{needs}
 use Rattle.replay.proofs.field.end_at.Statement.{statement}
 use Rattle.replay.proofs.field.end_at.Tie as tie
 
-find-requires : tie.Need-find-requires
-find-requires c κs = search needs
-
 returns : tie.Need-returns
 returns c =
     let a = c .before .before .args in
     (c .find .ensures, omega (arith, c .find .ensures, index-within (a .b) (now (a .s))))
 
 pub end-at-spec : {M : Type 1} → statement M
-end-at-spec = tie.close (tie.spec find-requires returns)
+end-at-spec =
+    tie.close
+    (tie.spec
+    (λ c κs. search needs)  -- find-requires
+    returns)

@@ -13,18 +13,6 @@ within c =
     let a = c .before .before .before .args in
     after-within (a .b) (now (a .s)) (c .before .find .result) (c .before .find .ensures) (c .if1 .left)
 
-find-requires : tie.Need-find-requires
-find-requires c κs = search needs
-
-sub-result : tie.Need-sub-result
-sub-result c = search needs
-
-part-result-start : tie.Need-part-result-start
-part-result-start c = search needs
-
-part-result-end : tie.Need-part-result-end
-part-result-end c = search needs
-
 returns : tie.Need-returns
 returns c =
     let a = c .before .before .before .before .args in
@@ -45,9 +33,6 @@ part-result-start-2 c =
     let h = within c in
     search needs
 
-part-result-end-2 : tie.Need-part-result-end-2
-part-result-end-2 c = search needs
-
 returns-2 : tie.Need-returns-2
 returns-2 c =
     let a = c .before .before .before .before .args in
@@ -57,13 +42,13 @@ pub text-after-spec : {M : Type 1} → statement M
 text-after-spec =
     tie.close
     (tie.spec
-    find-requires
-    sub-result
-    part-result-start
-    part-result-end
+    (λ c κs. search needs)  -- find-requires
+    (λ c. search needs)  -- sub-result
+    (λ c. search needs)  -- part-result-start
+    (λ c. search needs)  -- part-result-end
     returns
     add-result
     sub-result-2
     part-result-start-2
-    part-result-end-2
+    (λ c. search needs)  -- part-result-end-2
     returns-2)

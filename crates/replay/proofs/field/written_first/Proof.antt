@@ -9,35 +9,11 @@ use Rattle.replay.proofs.field.written_first.Tie as tie
 returns : tie.Need-returns
 returns c = first-none (now (c .before .before .args .s)) (c .if1 .taken)
 
-shared-slice-read-b : tie.Need-shared-slice-read-b
-shared-slice-read-b c = search needs
-
 returns-2 : tie.Need-returns-2
 returns-2 c = first-plain (now (c .before .before .before .before .args .s)) (c .if2 .taken)
 
 returns-3 : tie.Need-returns-3
 returns-3 c = first-short (now (c .before .before .before .before .before .args .s)) (c .if3 .taken)
-
-shared-slice-read-digit : tie.Need-shared-slice-read-digit
-shared-slice-read-digit c = search needs
-
-digit-requires : tie.Need-digit-requires
-digit-requires c κs = search needs
-
-shared-slice-read-digit-2 : tie.Need-shared-slice-read-digit-2
-shared-slice-read-digit-2 c = search needs
-
-digit-requires-2 : tie.Need-digit-requires-2
-digit-requires-2 c κs = search needs
-
-mul-t9 : tie.Need-mul-t9
-mul-t9 c = search needs
-
-add-t12 : tie.Need-add-t12
-add-t12 c = search needs
-
-cast-t8 : tie.Need-cast-t8
-cast-t8 c = search needs
 
 returns-4 : tie.Need-returns-4
 returns-4 c =
@@ -50,14 +26,14 @@ written-first-spec =
     tie.close
     (tie.spec
     returns
-    shared-slice-read-b
+    (λ c. search needs)  -- shared-slice-read-b
     returns-2
     returns-3
-    shared-slice-read-digit
-    digit-requires
-    shared-slice-read-digit-2
-    digit-requires-2
-    mul-t9
-    add-t12
-    cast-t8
+    (λ c. search needs)  -- shared-slice-read-digit
+    (λ c κs. search needs)  -- digit-requires
+    (λ c. search needs)  -- shared-slice-read-digit-2
+    (λ c κs. search needs)  -- digit-requires-2
+    (λ c. search needs)  -- mul-t9
+    (λ c. search needs)  -- add-t12
+    (λ c. search needs)  -- cast-t8
     returns-4)

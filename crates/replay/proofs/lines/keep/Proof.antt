@@ -4,7 +4,7 @@ use mathlib.Core.Path.{_≡_, refl, _∙_, ap}
 use native.Mathlib.Omega.{arith}
 use denote.Ref.{now}
 use lib.ListN.{length, take, drop, length-set, length-drop, length-take}
-use Rattle.numbers.specs.Text.{spanned}
+use Rattle.numbers.specs.code.Spans.{spanned}
 use borrow.Author.Needs.{needs}
 use Rattle.replay.proofs.Kept.{part-within, part-whole, kept-more, rest-less}
 use Rattle.replay.proofs.lines.keep.Statement.{statement}
@@ -23,9 +23,6 @@ within c =
     let a = c .before .before .before .before .before .args in
     part-within (now (a .block)) (a .part) _ (c .before .loop .n) (c .before .before .span-bytes .ensures) (c .loop-test .taken)
 
-span-bytes-requires : tie.Need-span-bytes-requires Inv-loop μ-loop
-span-bytes-requires c κs = search needs
-
 loop-holds : tie.Need-loop-holds Inv-loop μ-loop
 loop-holds c = (search needs, refl, refl, refl)
 
@@ -40,12 +37,6 @@ slice-read-block c = omega (arith, within (c .before), c .before .before .loop .
 slice-write-block : tie.Need-slice-write-block Inv-loop μ-loop
 slice-write-block c = omega (arith, within (c .before), c .before .before .loop .inv .1)
 
-add-n : tie.Need-add-n Inv-loop μ-loop
-add-n c = search needs
-
-loop-less : tie.Need-loop-less Inv-loop μ-loop
-loop-less c = search needs
-
 loop-again : tie.Need-loop-again Inv-loop μ-loop
 loop-again c =
     let a = c .before .before .before .before .before .before .args in
@@ -56,9 +47,6 @@ loop-again c =
       kept-more (now (a .block)) (at .block) (a .part .start) (at .n) (at .inv .3) (omega (arith, h, at .inv .1)) (omega (arith, h, length-drop (a .part .start) (now (a .block)))) (at .inv .2),
       rest-less (now (a .block)) (at .block) (a .part .start) (at .n) (at .inv .3) _,
     )
-
-same-length : tie.Need-same-length Inv-loop μ-loop
-same-length c = search needs
 
 returns : tie.Need-returns Inv-loop μ-loop
 returns c =
@@ -75,13 +63,13 @@ keep-spec =
     (tie.spec
     Inv-loop
     μ-loop
-    span-bytes-requires
+    (λ c κs. search needs)  -- span-bytes-requires
     loop-holds
     add-block
     slice-read-block
     slice-write-block
-    add-n
-    loop-less
+    (λ c. search needs)  -- add-n
+    (λ c. search needs)  -- loop-less
     loop-again
-    same-length
+    (λ c. search needs)  -- same-length
     returns)

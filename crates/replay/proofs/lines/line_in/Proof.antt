@@ -17,12 +17,6 @@ within c =
     let a = c .before .before .before .before .args in
     line-within (now (a .block)) (a .cursor) _ _ (c .before .before .span-bytes .ensures) (c .before .find .ensures) (c .if1 .left)
 
-span-bytes-requires : tie.Need-span-bytes-requires
-span-bytes-requires c κs = search needs
-
-find-requires : tie.Need-find-requires
-find-requires c κs = search needs
-
 returns : tie.Need-returns
 returns c =
     let a = c .before .before .before .before .args in
@@ -56,4 +50,12 @@ returns-2 c =
 pub line-in-spec : {M : Type 1} → statement M
 line-in-spec =
     tie.close
-    (tie.spec span-bytes-requires find-requires returns add-behind add-behind-2 sub-rest sub-rest-2 returns-2)
+    (tie.spec
+    (λ c κs. search needs)  -- span-bytes-requires
+    (λ c κs. search needs)  -- find-requires
+    returns
+    add-behind
+    add-behind-2
+    sub-rest
+    sub-rest-2
+    returns-2)

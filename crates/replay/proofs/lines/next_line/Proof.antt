@@ -5,31 +5,10 @@ use Rattle.replay.proofs.FirstLine.{next-here, next-read}
 use Rattle.replay.proofs.lines.next_line.Statement.{statement}
 use Rattle.replay.proofs.lines.next_line.Tie as tie
 
-line-in-requires : tie.Need-line-in-requires
-line-in-requires c κs = search needs
-
-enum-known-line : tie.Need-enum-known-line
-enum-known-line c = search needs
-
-enum-told : tie.Need-enum-told
-enum-told c = search needs
-
-refill-requires : tie.Need-refill-requires
-refill-requires c κs = search needs
-
-line-in-requires-2 : tie.Need-line-in-requires-2
-line-in-requires-2 c κs = search needs
-
-same-length : tie.Need-same-length
-same-length c = search needs
-
 returns : tie.Need-returns
 returns c =
     let a = c .before .before .before .before .before .before .args in
     next-here (now (a .block)) (a .cursor) _ _ _ (c .before .before .before .line-in .ensures) (c .before .line .given .1)
-
-same-length-2 : tie.Need-same-length-2
-same-length-2 c = search needs
 
 returns-2 : tie.Need-returns-2
 returns-2 c =
@@ -42,12 +21,12 @@ pub next-line-spec : {M : Type 1} → statement M
 next-line-spec =
     tie.close
     (tie.spec
-    line-in-requires
-    enum-known-line
-    enum-told
-    refill-requires
-    line-in-requires-2
-    same-length
+    (λ c κs. search needs)  -- line-in-requires
+    (λ c. search needs)  -- enum-known-line
+    (λ c. search needs)  -- enum-told
+    (λ c κs. search needs)  -- refill-requires
+    (λ c κs. search needs)  -- line-in-requires-2
+    (λ c. search needs)  -- same-length
     returns
-    same-length-2
+    (λ c. search needs)  -- same-length-2
     returns-2)

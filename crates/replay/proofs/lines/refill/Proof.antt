@@ -5,27 +5,6 @@ use Rattle.replay.proofs.Kept.{refilled}
 use Rattle.replay.proofs.lines.refill.Statement.{statement}
 use Rattle.replay.proofs.lines.refill.Tie as tie
 
-keep-requires : tie.Need-keep-requires
-keep-requires c κs = search needs
-
-sub-read-full : tie.Need-sub-read-full
-sub-read-full c = search needs
-
-part-read-full-start : tie.Need-part-read-full-start
-part-read-full-start c = search needs
-
-part-read-full-end : tie.Need-part-read-full-end
-part-read-full-end c = search needs
-
-read-full-requires : tie.Need-read-full-requires
-read-full-requires c κs = search needs
-
-add-result : tie.Need-add-result
-add-result c = search needs
-
-same-length : tie.Need-same-length
-same-length c = search needs
-
 returns : tie.Need-returns
 returns c =
     let a = c .before .before .before .before .before .before .before .before .before .args in
@@ -36,11 +15,11 @@ pub refill-spec : {M : Type 1} → statement M
 refill-spec =
     tie.close
     (tie.spec
-    keep-requires
-    sub-read-full
-    part-read-full-start
-    part-read-full-end
-    read-full-requires
-    add-result
-    same-length
+    (λ c κs. search needs)  -- keep-requires
+    (λ c. search needs)  -- sub-read-full
+    (λ c. search needs)  -- part-read-full-start
+    (λ c. search needs)  -- part-read-full-end
+    (λ c κs. search needs)  -- read-full-requires
+    (λ c. search needs)  -- add-result
+    (λ c. search needs)  -- same-length
     returns)

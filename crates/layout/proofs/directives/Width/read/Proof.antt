@@ -4,39 +4,6 @@ use borrow.Author.Needs.{needs}
 use Rattle.layout.proofs.directives.Width.read.Statement.{statement}
 use Rattle.layout.proofs.directives.Width.read.Tie as tie
 
-enum-told : tie.Need-enum-told
-enum-told c = search needs
-
-parse-imm-requires : tie.Need-parse-imm-requires
-parse-imm-requires c κs = search needs
-
-widened-requires : tie.Need-widened-requires
-widened-requires c κs = search needs
-
-enum-told-2 : tie.Need-enum-told-2
-enum-told-2 c = search needs
-
-parse-imm-requires-2 : tie.Need-parse-imm-requires-2
-parse-imm-requires-2 c κs = search needs
-
-widened-requires-2 : tie.Need-widened-requires-2
-widened-requires-2 c κs = search needs
-
-enum-told-3 : tie.Need-enum-told-3
-enum-told-3 c = search needs
-
-parse-imm-requires-3 : tie.Need-parse-imm-requires-3
-parse-imm-requires-3 c κs = search needs
-
-widened-requires-3 : tie.Need-widened-requires-3
-widened-requires-3 c κs = search needs
-
-enum-told-4 : tie.Need-enum-told-4
-enum-told-4 c = search needs
-
-parse-imm64-requires : tie.Need-parse-imm64-requires
-parse-imm64-requires c κs = search needs
-
 returns : tie.Need-returns
 returns c = c .widened .ensures ∙ c .before .parse-imm .ensures ∙ rw (c .before .before .enum-told .given .1) refl
 
@@ -53,17 +20,17 @@ pub read-spec : {M : Type 1} → statement M
 read-spec =
     tie.close
     (tie.spec
-    enum-told
-    parse-imm-requires
-    widened-requires
-    enum-told-2
-    parse-imm-requires-2
-    widened-requires-2
-    enum-told-3
-    parse-imm-requires-3
-    widened-requires-3
-    enum-told-4
-    parse-imm64-requires
+    (λ c. search needs)  -- enum-told
+    (λ c κs. search needs)  -- parse-imm-requires
+    (λ c κs. search needs)  -- widened-requires
+    (λ c. search needs)  -- enum-told-2
+    (λ c κs. search needs)  -- parse-imm-requires-2
+    (λ c κs. search needs)  -- widened-requires-2
+    (λ c. search needs)  -- enum-told-3
+    (λ c κs. search needs)  -- parse-imm-requires-3
+    (λ c κs. search needs)  -- widened-requires-3
+    (λ c. search needs)  -- enum-told-4
+    (λ c κs. search needs)  -- parse-imm64-requires
     returns
     returns-2
     returns-3

@@ -4,17 +4,8 @@ use borrow.Author.Tests.{eq-eqb, ne-eqb}
 use Rattle.replay.proofs.tally.Tally.with.Statement.{statement}
 use Rattle.replay.proofs.tally.Tally.with.Tie as tie
 
-wrapping-add-u64-requires : tie.Need-wrapping-add-u64-requires
-wrapping-add-u64-requires c κs = search needs
-
 returns : tie.Need-returns
 returns c = simp (c .wrapping-add-u64 .ensures, c .before .if1 .taken)
-
-wrapping-add-u64-requires-2 : tie.Need-wrapping-add-u64-requires-2
-wrapping-add-u64-requires-2 c κs = search needs
-
-wrapping-add-u64-requires-3 : tie.Need-wrapping-add-u64-requires-3
-wrapping-add-u64-requires-3 c κs = search needs
 
 returns-2 : tie.Need-returns-2
 returns-2 c = simp (c .wrapping-add-u643 .ensures, c .before .before .wrapping-add-u642 .ensures, c .before .before .before .if1 .left, eq-eqb _ _ (c .before .if2 .taken))
@@ -26,9 +17,9 @@ pub with-spec : {M : Type 1} → statement M
 with-spec =
     tie.close
     (tie.spec
-    wrapping-add-u64-requires
+    (λ c κs. search needs)  -- wrapping-add-u64-requires
     returns
-    wrapping-add-u64-requires-2
-    wrapping-add-u64-requires-3
+    (λ c κs. search needs)  -- wrapping-add-u64-requires-2
+    (λ c κs. search needs)  -- wrapping-add-u64-requires-3
     returns-2
     returns-3)

@@ -1,0 +1,372 @@
+-- The data: what a write takes and puts, the one place where they grow, and a directive's operands one after the other.
+use Prim.Native.Nat.{ℕ, _+_, _-_, _*_, _≤_, _<_}
+use native.Mathlib.Omega.{arith}
+use mathlib.Core.Path.{_≡_, refl, sym, ap, _∙_}
+use mathlib.Core.List.{List, [], _∷_, _++_, map, map-append}
+use lib.ListN.{length, take, drop, replicate, length-append, length-drop, length-replicate, length-map}
+use lib.IntN.{ℤ}
+use types.Run.{OneOf, miss}
+use denote.Enum.Declared.{tagOf}
+use borrow.Author.Tests.{le-leb, lt-leb, lt-ltb, le-ltb}
+use Rattle.numbers.specs.Results.{Result, value, refused, andThen, mapped}
+use Rattle.numbers.specs.Ints.{bits}
+use Rattle.numbers.specs.declared.text.Span.{Span}
+use Rattle.numbers.specs.code.Spans.{spanned}
+use Rattle.numbers.specs.declared.operands.Operand.the-variants.{At, End}
+use Rattle.numbers.specs.Operands.{operands}
+use Rattle.numbers.specs.code.Cursors.{operandAt, operandsFrom}
+use Rattle.numbers.proofs.Parts.{operand-step, operand-end, operands-all, operand-bounds}
+use Rattle.layout.specs.declared.limits.Room.{Room}
+use Rattle.layout.specs.declared.directives.Width.{Width}
+use Rattle.layout.specs.declared.directives.Width.the-variants.{Byte, Half, Word, Dword}
+use Rattle.layout.specs.declared.directives.Reservation.{Reservation}
+use Rattle.layout.specs.declared.directives.Reservation.the-variants.{Zeros, Aligns}
+use Rattle.layout.specs.declared.data.Write.{Write}
+use Rattle.layout.specs.declared.data.Write.the-variants.{Number, Text, Gap, Address}
+use Rattle.layout.specs.declared.records.LabelWordRecord.{LabelWordRecord}
+use Rattle.layout.specs.declared.state.DataCount.{DataCount}
+use Rattle.layout.specs.Bytes.{le, put, padded}
+use Rattle.layout.specs.Limits.{textLimit, labelWordLimit}
+use Rattle.layout.specs.Records.{fieldBytes}
+use Rattle.layout.specs.State.{LabelWord, Stored}
+use Rattle.layout.specs.Directives.{widthBytes, placeAfter, operandWrite}
+use Rattle.layout.specs.Directives as directive
+use Rattle.layout.specs.Stage.{writeSize, writeBytes, growData, addLabelWord, dataWrite, dataLine}
+use Rattle.layout.specs.code.Spans.{SpanWithin}
+use Rattle.layout.specs.code.Rows.{Small}
+use Rattle.layout.specs.code.Tables.{labelWordSize, labelWordFields}
+use Rattle.layout.specs.code.Writes.{writeAt, WriteFits, writtenBytes, Sized}
+use Rattle.layout.specs.code.Steps.{Some, Agrees, Steps}
+use Rattle.layout.specs.code.Stands.{labelWordOf, LabelWordsStand, DataStore, StoredStand, dataStore}
+use Rattle.layout.specs.code.Fits.{StoredFits}
+use Rattle.layout.proofs.data.Write.{the-type}
+use Rattle.layout.proofs.Each.{each-append}
+use Rattle.layout.proofs.Gives.{Gives}
+use Rattle.layout.proofs.Kept.{write-length, data-write-fits}
+use Rattle.layout.proofs.ByteLaws.{put-lent, put-put, put-pad, length-put, length-mid, length-le}
+use Rattle.layout.proofs.TableLaws.{table-more}
+use Rattle.layout.proofs.SpanLaws.{spanned-size, part-back}
+use Rattle.layout.proofs.ReservationLaws.{aligned-bounds}
+
+-- ---- how much a write takes
+
+width-small : (w : Width) → widthBytes w ≤ 8
+width-small Byte = omega arith
+width-small Half = omega arith
+width-small Word = omega arith
+width-small Dword = omega arith
+
+-- a place goes on, and not far
+pub after-bounds : (p : ℕ) (r : Reservation) → Small r → (p ≤ placeAfter p r) × (placeAfter p r ≤ p + 4294967296)
+after-bounds p (Zeros n) h = (omega arith, omega (arith, h))
+after-bounds p (Aligns n) h = let b = aligned-bounds n p (h .0) in (b .0, omega (arith, b, h))
+
+-- a span within the text has as many bytes as it names
+pub span-length : (t : List ℕ) (q : Span) → SpanWithin t q → length (spanned t q) ≡ q .len
+span-length t q h = omega (arith, h, spanned-size t q)
+
+text-length : (t : List ℕ) (q : Span) (z : ℕ) → SpanWithin t q → length (spanned t q ++ replicate z 0) ≡ q .len + z
+text-length t q z h = length-append (spanned t q) (replicate z 0) ∙ rw (span-length t q h, length-replicate {A = ℕ} z 0) refl
+
+abbrev Takes : List ℕ → ℕ → Write → ℕ → Type 0
+Takes t p x n = (n ≡ writeSize p (writeAt t x)) × (n ≤ 4294967296)
+
+module _ (t : List ℕ) (p : ℕ) (x : Write) where
+  pub number-takes : (w : Width) (v : ℤ) (n : ℕ) → x ≡ Number w v → n ≡ widthBytes w → Takes t p x n
+  number-takes w v n e q = rw (e, length-le (widthBytes w) (bits 64 v)) (q, omega (arith, q, width-small w))
+
+  pub text-takes : (q : Span) (z : ℕ) → x ≡ Text q z → WriteFits t x → length t ≤ textLimit → Takes t p x (q .len + z)
+  text-takes q z e f h =
+      let g = rw e at f in
+      rw (e, text-length t q z (g .0)) (refl, omega (arith, g, h))
+
+  pub gap-takes : (r : Reservation) (n : ℕ) → x ≡ Gap r → WriteFits t x → n ≡ placeAfter p r → Takes t p x (n - p)
+  gap-takes r n e f q = rw (e, q) (refl, omega (arith, after-bounds p r (rw e at f)))
+
+-- ---- what it puts
+
+-- a string, and its zeros in the part after it
+module _ (t dst src : List ℕ) (n : ℕ) (x : Write) (q : Span) (z : ℕ) (e : x ≡ Text q z) (is : src ≡ spanned t q) (f : WriteFits t x)
+    (s : Sized x n) (h : n ≤ length dst) where
+  text-within : SpanWithin t q
+  text-within = (rw e at f) .0
+
+  text-sized : n ≡ q .len + z
+  text-sized = rw e at s
+
+  source-length : length src ≡ q .len
+  source-length = ap length is ∙ span-length t q text-within
+
+  pub source-room : length src ≤ length dst
+  source-room = omega (arith, source-length, text-sized, h)
+
+  module _ (mid : List ℕ) (p : mid ≡ src ++ drop (length src) dst) where
+    pub zeros-left : q .len + z ≤ length mid
+    zeros-left =
+        rw p (rw (length-append src (drop (length src) dst), length-drop (length src) dst) (omega (arith, source-length, text-sized, h)))
+
+    pub zeros-room : z ≤ length (take (length mid - q .len) (drop (q .len) mid))
+    zeros-room = rw (length-mid (q .len) mid) (omega (arith, zeros-left))
+
+    pub text-put : (ys : List ℕ) → ys ≡ replicate z 0 ++ drop z (take (length mid - q .len) (drop (q .len) mid))
+        → take (q .len) mid ++ (ys ++ drop (length mid - q .len) (drop (q .len) mid)) ≡ writtenBytes t n x ++ drop n dst
+    text-put ys r =
+        let zs : List ℕ = replicate z 0 in
+        let all : length (src ++ zs) ≡ n =
+        length-append src zs ∙ omega (arith, source-length, text-sized, length-replicate {A = ℕ} z 0) in
+        let none : length src ≡ 0 + length src = omega arith in
+        let first : src ++ drop (length src) dst ≡ put 0 src dst = ap (λ (i : ℕ). src ++ drop i dst) none in
+        let end : 0 + length (src ++ zs) ≡ n = omega (arith, all) in
+        put-lent (q .len) z zs mid ys (length-replicate z 0) zeros-left r
+        ∙ ap (put (q .len) zs) (p ∙ first)
+        ∙ put-put 0 (q .len) src zs dst (omega (arith, source-length)) (omega (arith, text-sized, h))
+        ∙ ap (λ (i : ℕ). src ++ zs ++ drop i dst) end
+        ∙ rw (is, e) refl
+
+-- ---- label words
+
+no-word : (t : List ℕ) (line p : ℕ) (x : Write) (ws : List LabelWord) → OneOf (0 ∷ 1 ∷ 2 ∷ []) (tagOf the-type x)
+    → addLabelWord line p (writeAt t x) ws ≡ value ws
+unfolding addLabelWord
+no-word t line p (Number w v) ws h = refl
+no-word t line p (Text q z) ws h = refl
+no-word t line p (Gap r) ws h = refl
+no-word t line p (Address q) ws h = absurd (miss (0 ∷ 1 ∷ 2 ∷ []) 3 tt h)
+
+label-word-sized : (r : LabelWordRecord) → length (fieldBytes (labelWordFields r)) ≡ labelWordSize
+unfolding fieldBytes le
+label-word-sized r = refl
+
+module _ (t : List ℕ) (n : ℕ) (b : List ℕ) (line p : ℕ) (x : Write) where
+  -- another write makes none
+  pub word-none : OneOf (0 ∷ 1 ∷ 2 ∷ []) (tagOf the-type x) → Steps (LabelWordsStand t) n b (value n) b (addLabelWord line p (writeAt t x))
+  word-none h ws s = rw (no-word t line p x ws h) s
+
+  module _ (q : Span) (e : x ≡ Address q) where
+    pub word-many : labelWordLimit ≤ n → Steps (LabelWordsStand t) n b (refused 47) b (addLabelWord line p (writeAt t x))
+    unfolding addLabelWord
+    word-many h ws s = rw (e, addLabelWord, le-ltb (length ws) labelWordLimit (omega (arith, h, s .counted))) refl
+
+    pub word-goes : (b′ : List ℕ) → WriteFits t x → n < labelWordLimit → length b′ ≡ length b
+        → b′ ≡ put (n * labelWordSize) (fieldBytes (labelWordFields (record { at = p; start = q .start; len = q .len; line = line }))) b
+        → Steps (LabelWordsStand t) n b (value (n + 1)) b′ (addLabelWord line p (writeAt t x))
+    unfolding addLabelWord
+    word-goes b′ f h same g ws s =
+        let r : LabelWordRecord = record { at = p; start = q .start; len = q .len; line = line } in
+        let counted : n ≡ length (s .entries) = s .counted ∙ ap length (sym (s .mean)) ∙ length-map (s .entries) (labelWordOf t) in
+        rw (e, addLabelWord, lt-ltb (length ws) labelWordLimit (omega (arith, h, s .counted)))
+        (record {
+          counted = omega (arith, s .counted, length-append ws (labelWordOf t r ∷ []));
+          few = omega (arith, h, s .counted, length-append ws (labelWordOf t r ∷ []));
+          room = same ∙ s .room;
+          entries = s .entries ++ (r ∷ []);
+          mean = map-append (labelWordOf t) (s .entries) (r ∷ []) ∙ rw (s .mean) refl;
+          within = each-append _ (s .entries) (r ∷ []) (s .within) (rw e at f, tt);
+          bytes = table-more labelWordFields labelWordSize label-word-sized b b′ (s .entries) (s .bytes) n r counted same g;
+        })
+
+-- ---- the one place where the data grow
+
+-- what the code's write takes is what its bytes are, and what it puts is what the definition's write has
+module _ (t : List ℕ) (p : ℕ) (n : ℕ) where
+  pub write-sized : (x : Write) → WriteFits t x → n ≡ writeSize p (writeAt t x) → Sized x n
+  write-sized (Number w v) f e = tt
+  write-sized (Text q z) f e = e ∙ text-length t q z (f .0)
+  write-sized (Gap r) f e = tt
+  write-sized (Address q) f e = tt
+
+  written-is : (x : Write) → n ≡ writeSize p (writeAt t x) → writtenBytes t n x ≡ writeBytes p (writeAt t x)
+  written-is (Number w v) e = ap (λ (i : ℕ). le i (bits 64 v)) (e ∙ length-le (widthBytes w) (bits 64 v))
+  written-is (Text q z) e = refl
+  written-is (Gap r) e = ap (λ (i : ℕ). replicate i 0) e
+  written-is (Address q) e = ap (λ (i : ℕ). replicate i 0) e
+
+-- the data with these bytes
+abbrev dataThen : List ℕ → List LabelWord → Stored
+dataThen bs ws = record { bytes = bs; labelWords = ws }
+
+-- where the data have p bytes
+module _ (k : Room) (line : ℕ) (w : directive.Write) (σ : Stored) (p : ℕ) (e : p ≡ length (σ .bytes)) where
+  data-over : k .bytes < p + writeSize p w → dataWrite k line w σ ≡ refused 42
+  unfolding dataWrite growData
+  data-over h = rw (dataWrite, growData, lt-leb (length (σ .bytes) + writeSize (length (σ .bytes)) w) (k .bytes) (rw e at h)) refl
+
+  data-grows : p + writeSize p w ≤ k .bytes
+      → dataWrite k line w σ ≡ mapped (dataThen (σ .bytes ++ writeBytes p w)) (addLabelWord line p w (σ .labelWords))
+  unfolding dataWrite growData
+  data-grows h = rw (dataWrite, growData, le-leb (length (σ .bytes) + writeSize (length (σ .bytes)) w) (k .bytes) (rw e at h), e) refl
+
+-- steps of the data: m are the buffer's bytes, l the label words' records
+abbrev DataSteps : List ℕ → Room → DataCount → List ℕ → List ℕ → Result ℕ DataCount → List ℕ → List ℕ → (Stored → Result ℕ Stored) → Type 0
+DataSteps t k c m l r m′ l′ f = Steps (StoredStand t k) c (dataStore m l) r (dataStore m′ l′) f
+
+module _ (t : List ℕ) (k : Room) (c : DataCount) (m l : List ℕ) (line : ℕ) (x : Write) (n : ℕ)
+    (size : n ≡ writeSize (c .bytes) (writeAt t x)) where
+  pub data-full : k .bytes < c .bytes + n → DataSteps t k c m l (refused 42) m l (dataWrite k line (writeAt t x))
+  data-full h σ s = rw (data-over k line (writeAt t x) σ (c .bytes) (s .counted) (omega (arith, h, size))) refl
+
+  module _ (h : c .bytes + n ≤ k .bytes) (i : line < length t) (ys l′ : List ℕ)
+      (puts : ys ≡ writtenBytes t n x ++ drop n (take (length m - c .bytes) (drop (c .bytes) m)))
+      (r : Result ℕ ℕ) (added : Steps (LabelWordsStand t) (c .«label_words») l r l′ (addLabelWord line (c .bytes) (writeAt t x))) where
+    abbrev m′ : List ℕ
+    m′ = take (c .bytes) m ++ (ys ++ drop (length m - c .bytes) (drop (c .bytes) m))
+
+    grown : (σ : Stored) → StoredStand t k c (dataStore m l) σ
+        → dataWrite k line (writeAt t x) σ
+        ≡ mapped (dataThen (σ .bytes ++ writtenBytes t n x)) (addLabelWord line (c .bytes) (writeAt t x) (σ .labelWords))
+    grown σ s =
+        data-grows k line (writeAt t x) σ (c .bytes) (s .counted) (omega (arith, h, size))
+        ∙ ap (λ (bs : List ℕ). mapped (dataThen (σ .bytes ++ bs)) (addLabelWord line (c .bytes) (writeAt t x) (σ .labelWords)))
+        (sym (written-is t (c .bytes) n x size))
+
+    pub data-stops : (q : ℕ) → r ≡ refused q → DataSteps t k c m l (refused q) m′ l′ (dataWrite k line (writeAt t x))
+    data-stops q e σ s =
+        rw (grown σ s) (by (addLabelWord line (c .bytes) (writeAt t x) (σ .labelWords)) (rw e at (added (σ .labelWords) (s .labelWords))))
+      where
+        by : (a : Result ℕ (List LabelWord)) → Agrees (λ d. LabelWordsStand t d l′) (refused q) a
+            → Agrees (λ d. StoredStand t k d (dataStore m′ l′)) (refused q) (mapped (dataThen (σ .bytes ++ writtenBytes t n x)) a)
+        by (value ws) g = absurd g
+        by (refused o) g = g
+
+    pub data-goes : (o : ℕ) → r ≡ value o
+        → DataSteps t k c m l (value (record { bytes = c .bytes + n; «label_words» = o })) m′ l′ (dataWrite k line (writeAt t x))
+    data-goes o e σ s =
+        rw (grown σ s)
+        (by (addLabelWord line (c .bytes) (writeAt t x) (σ .labelWords)) (rw e at (added (σ .labelWords) (s .labelWords)))
+        (rw (grown σ s) at (data-write-fits t k line i (writeAt t x) σ (s .fits))))
+      where
+        bs : List ℕ
+        bs = writtenBytes t n x
+
+        long : length bs ≡ n
+        long = ap length (written-is t (c .bytes) n x size) ∙ write-length (c .bytes) (writeAt t x) ∙ sym size
+
+        stored : m′ ≡ put (c .bytes) bs m
+        stored = put-lent (c .bytes) n bs m ys long (omega (arith, h, s .lent)) puts
+
+        same : length m′ ≡ length m
+        same = ap length stored ∙ length-put (c .bytes) bs m (omega (arith, long, h, s .lent))
+
+        by : (a : Result ℕ (List LabelWord)) → Agrees (λ d. LabelWordsStand t d l′) (value o) a
+            → Gives (StoredFits t k) (mapped (dataThen (σ .bytes ++ bs)) a)
+            → Agrees (λ d. StoredStand t k d (dataStore m′ l′)) (value (record { bytes = c .bytes + n; «label_words» = o }))
+            (mapped (dataThen (σ .bytes ++ bs)) a)
+        by (value ws) g f =
+            record {
+              counted = omega (arith, s .counted, length-append (σ .bytes) bs, long);
+              fits = f;
+              limit = s .limit;
+              lent = omega (arith, s .lent, same);
+              bytes = stored ∙ ap (put (c .bytes) bs) (s .bytes) ∙ put-pad (length m) (c .bytes) (σ .bytes) bs (s .counted)
+                  ∙ ap (λ (j : ℕ). padded j (σ .bytes ++ bs)) (sym same);
+              labelWords = g;
+            }
+        by (refused q) g f = absurd g
+
+-- ---- a directive's operands one after the other
+
+module _ (k : Room) (line : ℕ) where
+  -- one operand, then the others
+  line-split : (r : Result ℕ directive.Write) (rs : List (Result ℕ directive.Write)) (σ : Stored)
+      → dataLine k line (r ∷ rs) σ ≡ andThen (dataLine k line (r ∷ []) σ) (dataLine k line rs)
+  unfolding dataLine
+  line-split (refused n) rs σ = refl
+  line-split (value w) rs σ = by (dataWrite k line w σ)
+    where
+      by : (m : Result ℕ Stored) → andThen m (dataLine k line rs) ≡ andThen (andThen m (dataLine k line [])) (dataLine k line rs)
+      by (value τ) = refl
+      by (refused n) = refl
+
+  one-write : (w : directive.Write) (σ : Stored) → dataLine k line (value w ∷ []) σ ≡ dataWrite k line w σ
+  unfolding dataLine
+  one-write w σ = by (dataWrite k line w σ)
+    where
+      by : (m : Result ℕ Stored) → andThen m (dataLine k line []) ≡ m
+      by (value τ) = refl
+      by (refused n) = refl
+
+  -- an operand alone: it is refused, or it is written
+  pub line-stops : (r : Result ℕ directive.Write) (n : ℕ) (σ : Stored) → r ≡ refused n → dataLine k line (r ∷ []) σ ≡ refused n
+  unfolding dataLine
+  line-stops r n σ e = rw e refl
+
+  pub line-goes : (r : Result ℕ directive.Write) (w : directive.Write) (σ : Stored) → r ≡ value w
+      → dataLine k line (r ∷ []) σ ≡ dataWrite k line w σ
+  line-goes r w σ e = rw e (one-write w σ)
+
+-- a state from which the operands from a place on come to the whole
+pub record Left (t : List ℕ) (k : Room) (line : ℕ) (w : Width) (s : List ℕ) (whole : Result ℕ Stored) (c : DataCount)
+    (b : DataStore) (at : ℕ) : Type 0 where
+  pub state : Stored
+  pub stands : StoredStand t k c b state
+  pub goes : dataLine k line (map (operandWrite w) (operandsFrom s at)) state ≡ whole
+
+-- what the loop over them keeps
+pub record Numbering (t : List ℕ) (k : Room) (line : ℕ) (w : Width) (s : List ℕ) (c₀ : DataCount) (m₀ l₀ : List ℕ)
+    (c : DataCount) (m l : List ℕ) (at : ℕ) : Type 0 where
+  pub same-bytes : length m ≡ length m₀
+  pub same-words : length l ≡ length l₀
+  pub first : Some (StoredStand t k c₀ (dataStore m₀ l₀))
+  pub left : (σ : Stored) → StoredStand t k c₀ (dataStore m₀ l₀) σ
+      → Left t k line w s (dataLine k line (map (operandWrite w) (operands s)) σ) c (dataStore m l) at
+
+module _ (t : List ℕ) (k : Room) (line : ℕ) (w : Width) (s : List ℕ) (c₀ : DataCount) (m₀ l₀ : List ℕ) where
+  pub numbering-first : Some (StoredStand t k c₀ (dataStore m₀ l₀)) → Numbering t k line w s c₀ m₀ l₀ c₀ m₀ l₀ 0
+  numbering-first f =
+      record { same-bytes = refl; same-words = refl; first = f; left = λ σ g. record { state = σ; stands = g; goes = rw (operands-all s) refl } }
+
+  module _ (c : DataCount) (m l : List ℕ) (at : ℕ) (g : Numbering t k line w s c₀ m₀ l₀ c m l at) where
+    -- there is something that the present counters and buffers stand for
+    pub numbering-some : Some (StoredStand t k c (dataStore m l))
+    numbering-some = let h = g .left (g .first .it) (g .first .stands) in record { it = h .state; stands = h .stands }
+
+    -- no operand is left
+    pub numbering-ends : (part : List ℕ) → s ≡ part → operandAt s at ≡ End
+        → DataSteps t k c₀ m₀ l₀ (value c) m l (dataLine k line (map (operandWrite w) (operands part)))
+    unfolding dataLine
+    numbering-ends part d e σ i = let h = g .left σ i in rw (← d, ← h .goes, operand-end s at e) (h .stands)
+
+    module _ (p : Span) (next : ℕ) (e : operandAt s at ≡ At p next) (r : Result ℕ directive.Write) (is : r ≡ operandWrite w (spanned s p))
+        (m′ l′ : List ℕ) (o : Result ℕ DataCount) (h : DataSteps t k c m l o m′ l′ (dataLine k line (r ∷ []))) where
+      after : (σ : Stored) (i : StoredStand t k c₀ (dataStore m₀ l₀) σ)
+          → andThen (dataLine k line (r ∷ []) (g .left σ i .state)) (dataLine k line (map (operandWrite w) (operandsFrom s next)))
+          ≡ dataLine k line (map (operandWrite w) (operands s)) σ
+      after σ i = sym (line-split k line r _ _) ∙ rw (operand-step s at p next e, ← is) at (g .left σ i .goes)
+
+      -- the operand is refused
+      pub numbering-stops : (part : List ℕ) → s ≡ part → (n : ℕ) → o ≡ refused n
+          → DataSteps t k c₀ m₀ l₀ (refused n) m′ l′ (dataLine k line (map (operandWrite w) (operands part)))
+      numbering-stops part d n q σ i =
+          rw (← d, ← after σ i) (by (dataLine k line (r ∷ []) (g .left σ i .state)) (rw q at (h (g .left σ i .state) (g .left σ i .stands))))
+        where
+          by : (a : Result ℕ Stored) → Agrees (λ d. StoredStand t k d (dataStore m′ l′)) (refused n) a
+              → Agrees (λ d. StoredStand t k d (dataStore m′ l′)) (refused n)
+              (andThen a (dataLine k line (map (operandWrite w) (operandsFrom s next))))
+          by (value τ) a = absurd a
+          by (refused n) a = a
+
+      -- or the others are left
+      pub numbering-goes : (c′ : DataCount) → o ≡ value c′ → length m′ ≡ length m → length l′ ≡ length l
+          → Numbering t k line w s c₀ m₀ l₀ c′ m′ l′ next
+      numbering-goes c′ q same-m same-l =
+          record {
+            same-bytes = same-m ∙ g .same-bytes;
+            same-words = same-l ∙ g .same-words;
+            first = g .first;
+            left = λ σ i.
+                by (dataLine k line (r ∷ []) (g .left σ i .state)) _ (rw q at (h (g .left σ i .state) (g .left σ i .stands))) (after σ i);
+          }
+        where
+          by : (a whole : Result ℕ Stored) → Agrees (λ d. StoredStand t k d (dataStore m′ l′)) (value c′) a
+              → andThen a (dataLine k line (map (operandWrite w) (operandsFrom s next))) ≡ whole → Left t k line w s whole c′ (dataStore m′ l′) next
+          by (value τ) whole a q = record { state = τ; stands = a; goes = q }
+          by (refused n) whole a q = absurd a
+
+-- an operand of a part, by its place in the text
+module _ (t : List ℕ) (q : Span) (s : List ℕ) (at : ℕ) (p : Span) (next : ℕ) (d : s ≡ spanned t q) (e : operandAt s at ≡ At p next) where
+  pub operand-back : spanned t (record { start = q .start + p .start; len = p .len }) ≡ spanned s p
+  unfolding spanned
+  operand-back = rw d (part-back t q (p .start) (p .len) (rw d at (operand-bounds s at p next e .0)))
+
+  pub operand-within : SpanWithin t q → SpanWithin t (record { start = q .start + p .start; len = p .len })
+  operand-within h = omega (arith, h, operand-bounds s at p next e .0, ap length d ∙ spanned-size t q)

@@ -1,0 +1,246 @@
+-- Pseudo-instructions: a line's item by its first word's place in the table of spellings, for any table; and an li's words.
+use Prim.Native.Nat.{ℕ, zero, suc, min, _≤_, _<_}
+use native.Mathlib.Omega.{arith}
+use mathlib.Core.Path.{_≡_, refl, sym, ap, _∙_}
+use mathlib.Core.List.{List, [], _∷_, map}
+use mathlib.Core.Bool.{Bool, true, false, cond, not, _&&_, _||_, false≢true, and-false}
+use lib.Dec.{eqb, leb, leb·suc-suc}
+use lib.ListN.{length, take, drop, getD, List·getD-map}
+use borrow.Author.Tests.{eqb-true, eq-eqb, ne-eqb, eqb-false, not-true, lt-leb}
+use Rattle.numbers.specs.declared.text.Span.{Span}
+use Rattle.numbers.specs.declared.operands.Operand.the-variants.{At, End}
+use Rattle.numbers.specs.Text.{text, startsWith, same, indexOf, before, oneSpaced}
+use Rattle.numbers.specs.code.Spans.{spanned}
+use Rattle.numbers.specs.code.Tables.{isWord, indexIn}
+use Rattle.numbers.specs.Numbers.{spacedImmOf}
+use Rattle.numbers.specs.Operands.{itemOperands}
+use Rattle.numbers.specs.code.Cursors.{itemOperandsFrom, itemOperandAt}
+use Rattle.numbers.proofs.Bools.{and-left, and-right, or-left, or-right}
+use Rattle.numbers.proofs.Prefixes.{same-equal}
+use Rattle.numbers.proofs.Parts.{items-spaced, item-step, item-end, items-all}
+use Rattle.layout.specs.declared.pseudo.Pseudo.the-variants.{Li, La, Push, Pop, Print, PrintStr, Read, ReadByte, Random}
+use Rattle.layout.specs.declared.pseudo.LineKind.{LineKind}
+use Rattle.layout.specs.declared.pseudo.LineKind.the-variants as kind
+use Rattle.layout.specs.Pseudos.{Item, ordinary, pseudo, other, Spelling, spellings, itemIn, liNumber, liWords}
+use Rattle.layout.specs.code.Kinds.{beginsAsPseudo, kindCode, kindSource, kindNumber}
+
+-- ---- one spelling
+
+-- does a line end where its first word does?
+abbrev pub endsLine : List ℕ → Bool
+endsLine s = leb (length s) (length (before 32 s))
+
+-- a name without a blank is followed by one, or is the whole line, where it is the first word and does not end the line, or may
+spelled-word : (n s : List ℕ) (bare : Bool) → isWord n ≡ true
+    → startsWith n s && (startsWith (text " ") (drop (length n) s) || (bare && same n s)) ≡ same n (before 32 s) && not (endsLine s && not bare)
+unfolding isWord startsWith same indexOf before
+spelled-word [] [] bare h = go bare
+  where
+    go : (b : Bool) → b && true ≡ not (not b)
+    go true = refl
+    go false = refl
+spelled-word [] (x ∷ s) bare h = go (eqb x 32)
+  where
+    go : (t : Bool) → (t && true) || (bare && false) ≡ same [] (take (cond t 0 (suc (indexOf 32 s))) (x ∷ s)) && not (leb (suc (length s)) (length (take (cond t 0 (suc (indexOf 32 s))) (x ∷ s))) && not bare)
+    go true = rw (lt-leb (suc (length s)) 0 (omega arith)) refl
+    go false = and-false bare
+spelled-word (y ∷ n) [] bare h = refl
+spelled-word (y ∷ n) (x ∷ s) bare h = go (eqb x y) refl (eqb x 32) refl (spelled-word n s bare (and-right (not (eqb y 32)) (isWord n) h))
+  where
+    go : (t : Bool) → eqb x y ≡ t → (u : Bool) → eqb x 32 ≡ u
+        → startsWith n s && (startsWith (text " ") (drop (length n) s) || (bare && same n s)) ≡ same n (take (indexOf 32 s) s) && not (leb (length s) (length (take (indexOf 32 s) s)) && not bare)
+        → (t && startsWith n s) && (startsWith (text " ") (drop (length n) s) || (bare && (eqb y x && same n s)))
+        ≡ same (y ∷ n) (take (cond u 0 (suc (indexOf 32 s))) (x ∷ s)) && not (leb (suc (length s)) (length (take (cond u 0 (suc (indexOf 32 s))) (x ∷ s))) && not bare)
+    go true e true f ih = absurd (false≢true (rw (sym (eqb-true x y e) ∙ eqb-true x 32 f) at (and-left (not (eqb y 32)) (isWord n) h)))
+    go true e false f ih = rw (eq-eqb y x (sym (eqb-true x y e)), leb·suc-suc (length s) (length (take (indexOf 32 s) s))) ih
+    go false e true f ih = refl
+    go false e false f ih = rw (ne-eqb y x (λ q. eqb-false x y e (sym q))) refl
+
+-- ---- the table of spellings
+
+-- every name a word, and no two the same: what a table is tested for
+unfoldable pub isName : List ℕ → List Spelling → Bool
+isName w [] = false
+isName w (x ∷ xs) = same (x .name) w || isName w xs
+
+unfoldable pub sound : List Spelling → Bool
+sound [] = true
+sound (x ∷ xs) = isWord (x .name) && (not (isName (x .name) xs) && sound xs)
+
+pub spellings-sound : sound spellings ≡ true
+unfolding sound isName isWord same spellings
+spellings-sound = refl
+
+abbrev pub names : List Spelling → List (List ℕ)
+names xs = map (λ x. x .name) xs
+
+no-name : (xs : List Spelling) (s : List ℕ) → sound xs ≡ true → isName (before 32 s) xs ≡ false → itemIn xs s ≡ ordinary
+unfolding isName itemIn sound
+no-name [] s p h = refl
+no-name (x ∷ xs) s p h =
+    let q = and-right (isWord (x .name)) (not (isName (x .name) xs) && sound xs) p in
+    rw (
+      itemIn,
+      spelled-word (x .name) s (x .bare) (and-left (isWord (x .name)) (not (isName (x .name) xs) && sound xs) p),
+      or-left (same (x .name) (before 32 s)) (isName (before 32 s) xs) h,
+    )
+    (no-name xs s (and-right (not (isName (x .name) xs)) (sound xs) q) (or-right (same (x .name) (before 32 s)) (isName (before 32 s) xs) h))
+
+-- the item at a place, where the line goes on after its first word or the spelling may end it
+unfoldable itemAt : List Spelling → ℕ → Bool → Item
+itemAt [] i t = ordinary
+itemAt (x ∷ xs) zero t = cond (not (t && not (x .bare))) (x .item) ordinary
+itemAt (x ∷ xs) (suc i) t = itemAt xs i t
+
+item-indexed : (xs : List Spelling) (s : List ℕ) → sound xs ≡ true → itemIn xs s ≡ itemAt xs (indexIn (names xs) (before 32 s)) (endsLine s)
+unfolding sound itemIn itemAt indexIn
+item-indexed [] s p = refl
+item-indexed (x ∷ xs) s p =
+    let n = and-left (isWord (x .name)) (not (isName (x .name) xs) && sound xs) p in
+    let q = and-right (isWord (x .name)) (not (isName (x .name) xs) && sound xs) p in
+    rw (spelled-word (x .name) s (x .bare) n)
+    (go (same (x .name) (before 32 s)) refl (not-true (isName (x .name) xs) (and-left (not (isName (x .name) xs)) (sound xs) q))
+    (and-right (not (isName (x .name) xs)) (sound xs) q) (item-indexed xs s (and-right (not (isName (x .name) xs)) (sound xs) q)))
+  where
+    go : (t : Bool) → same (x .name) (before 32 s) ≡ t → isName (x .name) xs ≡ false → sound xs ≡ true
+        → itemIn xs s ≡ itemAt xs (indexIn (names xs) (before 32 s)) (endsLine s)
+        → cond (t && not (endsLine s && not (x .bare))) (x .item) (itemIn xs s)
+        ≡ itemAt (x ∷ xs) (cond t 0 (suc (indexIn (names xs) (before 32 s)))) (endsLine s)
+    go true e a q ih = rw (no-name xs s q (rw (same-equal (x .name) (before 32 s) e) at a)) refl
+    go false e a q ih = ih
+
+-- past the last row, and at a row
+item-none : (xs : List Spelling) (i : ℕ) (t : Bool) → length xs ≤ i → itemAt xs i t ≡ ordinary
+unfolding itemAt
+item-none [] i t h = refl
+item-none (x ∷ xs) zero t h = absurd (omega arith)
+item-none (x ∷ xs) (suc i) t h = item-none xs i t (omega arith)
+
+abbrev noSpelling : Spelling
+noSpelling = record { name = []; item = other; bare = false }
+
+item-row : (xs : List Spelling) (i : ℕ) (t : Bool) → i < length xs
+    → itemAt xs i t ≡ cond (not (t && not (getD xs i noSpelling .bare))) (getD xs i noSpelling .item) ordinary
+unfolding itemAt
+item-row [] i t h = absurd (omega arith)
+item-row (x ∷ xs) zero t h = refl
+item-row (x ∷ xs) (suc i) t h = item-row xs i t (omega arith)
+
+-- ---- the code's columns
+
+-- a kind is told by its number and its source
+abbrev fromNumber : ℕ → Span → LineKind
+fromNumber n q =
+    getD (kind.Unsupported q ∷ kind.Pseudo Li q ∷ kind.Pseudo La q ∷ kind.Pseudo Push q ∷ kind.Pseudo Pop q ∷ kind.Pseudo Print q
+    ∷ kind.Pseudo PrintStr q ∷ kind.Pseudo Read q ∷ kind.Pseudo ReadByte q ∷ kind.Pseudo Random q ∷ []) n (kind.Instr q)
+
+number-back : (k : LineKind) → fromNumber (kindNumber k) (kindSource k) ≡ k
+number-back (kind.Unsupported q) = refl
+number-back (kind.Pseudo Li q) = refl
+number-back (kind.Pseudo La q) = refl
+number-back (kind.Pseudo Push q) = refl
+number-back (kind.Pseudo Pop q) = refl
+number-back (kind.Pseudo Print q) = refl
+number-back (kind.Pseudo PrintStr q) = refl
+number-back (kind.Pseudo Read q) = refl
+number-back (kind.Pseudo ReadByte q) = refl
+number-back (kind.Pseudo Random q) = refl
+number-back (kind.Instr q) = refl
+
+number-tells : (a b : LineKind) → kindNumber a ≡ kindNumber b → kindSource a ≡ kindSource b → a ≡ b
+number-tells a b e f = sym (number-back a) ∙ rw (e, f) (number-back b)
+
+pub source-back : (i : Item) (q : Span) → kindSource (kindCode i q) ≡ q
+source-back ordinary q = refl
+source-back (pseudo p) q = refl
+source-back other q = refl
+
+flag-back : (b : Bool) → eqb (cond b 1 0) 0 ≡ not b
+flag-back true = refl
+flag-back false = refl
+
+-- the columns that the code has beside the names
+abbrev pub bareColumn : List Spelling → List ℕ
+bareColumn xs = map (λ x. cond (x .bare) 1 0) xs
+
+module _ (q : Span) where
+  abbrev pub kindColumn : List Spelling → List ℕ
+  kindColumn xs = map (λ x. kindNumber (kindCode (x .item) q)) xs
+
+  -- the row that the code finds: none, one that may not end the line, or one whose columns say what it is
+  module _ (xs : List Spelling) (s : List ℕ) (ok : sound xs ≡ true) (i : ℕ) (at : i ≡ indexIn (names xs) (before 32 s)) where
+    placed : itemIn xs s ≡ itemAt xs i (endsLine s)
+    placed = rw at (item-indexed xs s ok)
+
+    pub line-plain : length xs ≤ i → kind.Instr q ≡ kindCode (itemIn xs s) q
+    line-plain h = rw (placed, item-none xs i (endsLine s) h) refl
+
+    module _ (h : i < length xs) where
+      abbrev found : Spelling
+      found = getD xs i noSpelling
+
+      rowed : (t : Bool) → endsLine s && eqb (getD (bareColumn xs) i 0) 0 ≡ t → itemIn xs s ≡ cond (not t) (found .item) ordinary
+      rowed t e =
+          let bare : eqb (getD (bareColumn xs) i 0) 0 ≡ not (found .bare) =
+          ap (λ (k : ℕ). eqb k 0) (List·getD-map (λ (x : Spelling). cond (x .bare) 1 0) xs i noSpelling) ∙ flag-back (found .bare) in
+          placed ∙ item-row xs i (endsLine s) h ∙ rw (rw bare at e) refl
+
+      pub line-ended : endsLine s && eqb (getD (bareColumn xs) i 0) 0 ≡ true → kind.Instr q ≡ kindCode (itemIn xs s) q
+      line-ended e = rw (rowed true e) refl
+
+      pub line-named : endsLine s && eqb (getD (bareColumn xs) i 0) 0 ≡ false → map (λ k. min k 9) (kindColumn xs) ≡ kindColumn xs
+          → (r : LineKind) → (kindNumber r ≡ min (getD (kindColumn xs) i 0) 9) × (kindSource r ≡ q) → r ≡ kindCode (itemIn xs s) q
+      line-named e small r is =
+          number-tells r (kindCode (itemIn xs s) q)
+          (is .0 ∙ sym (List·getD-map (λ (k : ℕ). min k 9) (kindColumn xs) i 0) ∙ ap (λ (l : List ℕ). getD l i 0) small
+          ∙ List·getD-map (λ (x : Spelling). kindNumber (kindCode (x .item) q)) xs i noSpelling
+          ∙ sym (ap (λ (x : Item). kindNumber (kindCode x q)) (rowed false e)))
+          (is .1 ∙ sym (source-back (itemIn xs s) q))
+
+-- ---- the first letter
+
+-- every name begins as one may
+unfoldable pub begun : List Spelling → Bool
+begun [] = true
+begun (x ∷ xs) = beginsAsPseudo (x .name) && begun xs
+
+pub spellings-begun : begun spellings ≡ true
+unfolding begun spellings startsWith
+spellings-begun = refl
+
+begins-on : (n s : List ℕ) → startsWith n s ≡ true → beginsAsPseudo n ≡ true → beginsAsPseudo s ≡ true
+unfolding startsWith
+begins-on [] s h b = absurd (false≢true b)
+begins-on (y ∷ ys) [] h b = absurd (false≢true h)
+begins-on (y ∷ ys) (x ∷ xs) h b = rw (eqb-true x y (and-left (eqb x y) (startsWith ys xs) h)) b
+
+-- what begins otherwise is no pseudo
+pub other-first : (xs : List Spelling) (s : List ℕ) → begun xs ≡ true → beginsAsPseudo s ≡ false → itemIn xs s ≡ ordinary
+unfolding begun itemIn
+other-first [] s h e = refl
+other-first (x ∷ xs) s h e = by (startsWith (x .name) s) refl (other-first xs s (and-right (beginsAsPseudo (x .name)) (begun xs) h) e)
+  where
+    rest : Bool
+    rest = startsWith (text " ") (drop (length (x .name)) s) || (x .bare && same (x .name) s)
+
+    by : (c : Bool) → startsWith (x .name) s ≡ c → itemIn xs s ≡ ordinary → cond (c && rest) (x .item) (itemIn xs s) ≡ ordinary
+    by true q more = absurd (false≢true (sym e ∙ begins-on (x .name) s q (and-left (beginsAsPseudo (x .name)) (begun xs) h)))
+    by false q more = more
+
+-- ---- what follows the first word
+
+-- an li's words by the operands that are found after its name
+module _ (t : List ℕ) where
+  li-operands : liWords (itemOperands (oneSpaced t)) ≡ liWords (map oneSpaced (itemOperandsFrom t 0))
+  li-operands = rw (items-spaced t, items-all t) refl
+
+  pub li-none : itemOperandAt t 0 ≡ End → liWords (itemOperands (oneSpaced t)) ≡ 1
+  li-none e = rw (li-operands, item-end t 0 e) refl
+
+  module _ (p : Span) (next : ℕ) (e : itemOperandAt t 0 ≡ At p next) where
+    pub li-one : itemOperandAt t next ≡ End → liWords (itemOperands (oneSpaced t)) ≡ 1
+    li-one f = rw (li-operands, item-step t 0 p next e, item-end t next f) refl
+
+    pub li-two : (q : Span) (after : ℕ) → itemOperandAt t next ≡ At q after → liWords (itemOperands (oneSpaced t)) ≡ liNumber (spacedImmOf (spanned t q))
+    unfolding spacedImmOf
+    li-two q after f = rw (li-operands, item-step t 0 p next e, item-step t next q after f) refl

@@ -1,0 +1,53 @@
+-- Records: each kind's fields once, and their bytes. Document 01, "Records".
+use Prim.Native.Nat.{ℕ}
+use mathlib.Core.List.{List, [], _∷_, _++_, map}
+use lib.ListN.{length}
+use lib.IntN.{ℤ}
+use Rattle.numbers.specs.Ints.{bits}
+use Rattle.layout.specs.declared.records.LabelRecord.{LabelRecord}
+use Rattle.layout.specs.declared.records.EquateRecord.{EquateRecord}
+use Rattle.layout.specs.declared.records.ItemRecord.{ItemRecord}
+use Rattle.layout.specs.Bytes.{le, padded, together}
+use Rattle.layout.specs.Pieces.{Piece}
+
+-- "Little-endian, one fixed size, no header, fields of 4 bytes unless said"
+pub record Field : Type 0 where
+  pub width : ℕ
+  pub number : ℕ
+
+abbrev pub four : ℕ → Field
+four v = record { width = 4; number = v }
+
+abbrev pub eight : ℕ → Field
+eight v = record { width = 8; number = v }
+
+unfoldable pub fieldBytes : List Field → List ℕ
+fieldBytes [] = []
+fieldBytes (f ∷ fs) = le (f .width) (f .number) ++ fieldBytes fs
+
+-- "Label, 16 bytes: name start in the text, name length, address, line"
+abbrev pub labelFields : LabelRecord → List Field
+labelFields r = four (r .start) ∷ four (r .len) ∷ four (r .address) ∷ four (r .line) ∷ []
+
+-- "Equate, 24 bytes, in text order: name start, name length, line, value (8 bytes), round"
+abbrev pub equateFields : EquateRecord → List Field
+equateFields r = four (r .start) ∷ four (r .len) ∷ four (r .line) ∷ eight (bits 64 (r .value)) ∷ four (r .round) ∷ []
+
+-- "Item, 24 bytes, in text order: address, line, kind (..), first word's index, source start, source length"
+abbrev pub itemFields : ItemRecord → List Field
+itemFields r = four (r .address) ∷ four (r .line) ∷ four (r .kind) ∷ four (r .first) ∷ four (r .start) ∷ four (r .len) ∷ []
+
+-- a record of a name or a source, by where it starts and its length
+abbrev pub labelRecord : Piece → ℕ → ℕ → LabelRecord
+labelRecord name address line = record { start = name .at; len = length (name .bytes); address = address; line = line }
+
+abbrev pub equateRecord : Piece → ℕ → ℤ → ℕ → EquateRecord
+equateRecord name line value round = record { start = name .at; len = length (name .bytes); line = line; value = value; round = round }
+
+abbrev pub itemRecord : ℕ → ℕ → ℕ → ℕ → Piece → ItemRecord
+itemRecord address line kind first source =
+    record { address = address; line = line; kind = kind; first = first; start = source .at; len = length (source .bytes) }
+
+-- records one after the other in n bytes, and zeros after them: f gives a record's fields
+abbrev pub tableOf : {A : Type 0} → ℕ → (A → List Field) → List A → List ℕ
+tableOf n f xs = padded n (together (map (λ x. fieldBytes (f x)) xs))

@@ -1,0 +1,9 @@
+pub mod Steps
+pub mod Places
+pub mod Rows
+pub mod Spans
+pub mod Kinds
+pub mod Writes
+pub mod Tables
+pub mod Fits
+pub mod Stands

@@ -1,0 +1,106 @@
+-- The layout's own records, and records read back from their bytes.
+use Prim.Native.Nat.{ℕ, zero, suc, _+_, _*_, _<_}
+use mathlib.Core.List.{List, [], _∷_}
+use mathlib.Core.Bool.{Bool, true, false}
+use mathlib.Core.Option.{Option, none, some}
+use lib.ListN.{take, drop}
+use Rattle.numbers.specs.Text.{same}
+use Rattle.numbers.specs.code.Spans.{spanned}
+use Rattle.layout.specs.declared.records.LabelRecord.{LabelRecord}
+use Rattle.layout.specs.declared.records.ItemRecord.{ItemRecord}
+use Rattle.layout.specs.declared.records.ExprRecord.{ExprRecord}
+use Rattle.layout.specs.declared.records.LabelWordRecord.{LabelWordRecord}
+use Rattle.layout.specs.declared.labels.Lookup.{Lookup}
+use Rattle.layout.specs.declared.labels.Lookup.the-variants as lookup
+use Rattle.layout.specs.Limits.{labelSize, equateLimit, itemSize, labelWordLimit}
+use Rattle.layout.specs.Records.{Field, four}
+
+-- ---- an equate's expression, and a label word: 16 bytes each
+
+abbrev pub exprSize : ℕ
+exprSize = 16
+
+abbrev pub labelWordSize : ℕ
+labelWordSize = 16
+
+-- the bytes that are kept for all of them
+abbrev pub exprRoom : ℕ
+exprRoom = equateLimit * exprSize
+
+abbrev pub labelWordRoom : ℕ
+labelWordRoom = labelWordLimit * labelWordSize
+
+abbrev pub flagOf : Bool → ℕ
+flagOf true = 1
+flagOf false = 0
+
+abbrev pub exprFields : ExprRecord → List Field
+exprFields r = four (r .start) ∷ four (r .len) ∷ four (flagOf (r .«one_space»)) ∷ four (r .place) ∷ []
+
+abbrev pub labelWordFields : LabelWordRecord → List Field
+labelWordFields r = four (r .at) ∷ four (r .start) ∷ four (r .len) ∷ four (r .line) ∷ []
+
+-- ---- read back
+
+-- the number that bytes stand for, the low byte first
+unfoldable pub leValue : List ℕ → ℕ
+leValue [] = 0
+leValue (b ∷ bs) = b + 256 * leValue bs
+
+-- the number in the four bytes at a place
+abbrev pub fourAt : List ℕ → ℕ → ℕ
+fourAt b at = leValue (take 4 (drop at b))
+
+-- the kth record of a table
+abbrev pub labelAt : List ℕ → ℕ → LabelRecord
+labelAt b k =
+    record {
+      start = fourAt b (k * labelSize);
+      len = fourAt b (k * labelSize + 4);
+      address = fourAt b (k * labelSize + 8);
+      line = fourAt b (k * labelSize + 12);
+    }
+
+abbrev pub itemAt : List ℕ → ℕ → ItemRecord
+itemAt b k =
+    record {
+      address = fourAt b (k * itemSize);
+      line = fourAt b (k * itemSize + 4);
+      kind = fourAt b (k * itemSize + 8);
+      first = fourAt b (k * itemSize + 12);
+      start = fourAt b (k * itemSize + 16);
+      len = fourAt b (k * itemSize + 20);
+    }
+
+abbrev pub labelWordAt : List ℕ → ℕ → LabelWordRecord
+labelWordAt b k =
+    record {
+      at = fourAt b (k * labelWordSize);
+      start = fourAt b (k * labelWordSize + 4);
+      len = fourAt b (k * labelWordSize + 8);
+      line = fourAt b (k * labelWordSize + 12);
+    }
+
+-- ---- labels by name
+
+-- the name in the kth label record, and those in n records from the kth on
+abbrev pub labelNameAt : List ℕ → List ℕ → ℕ → List ℕ
+labelNameAt t b k = spanned t (record { start = labelAt b k .start; len = labelAt b k .len })
+
+unfoldable pub labelNames : List ℕ → List ℕ → ℕ → ℕ → List (List ℕ)
+labelNames t b k zero = []
+labelNames t b k (suc n) = labelNameAt t b k ∷ labelNames t b (suc k) n
+
+-- the place of a name among names, counted from k on
+unfoldable pub lookupIn : List ℕ → ℕ → List (List ℕ) → Option ℕ
+lookupIn n k [] = none
+lookupIn n k (x ∷ xs) = elim (same x n) [ true ↦ some k | false ↦ lookupIn n (suc k) xs ]
+
+abbrev pub lookupOf : Lookup → Option ℕ
+lookupOf (lookup.At k) = some k
+lookupOf lookup.Nothing = none
+
+-- what was found is one of so many
+abbrev pub LookupBelow : ℕ → Lookup → Type 0
+LookupBelow count (lookup.At k) = k < count
+LookupBelow count lookup.Nothing = Unit

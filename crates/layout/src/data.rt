@@ -1,0 +1,394 @@
+// The data section: what an operand writes, and the one place where the data grow.
+use crate::directives::Reservation;
+use crate::directives::Reserve;
+use crate::directives::Reserved;
+use crate::directives::Store;
+use crate::directives::Width;
+use crate::directives::place_after;
+use crate::directives::reservation_of;
+use crate::limits::LABEL_WORD_LIMIT;
+use crate::limits::Room;
+use crate::records::LabelWordRecord;
+use crate::records::put_label_word;
+use crate::state::Count;
+use crate::state::DataCount;
+use crate::state::DataStep;
+use crate::writers::put_bytes;
+use crate::writers::put_number;
+use crate::writers::put_zeros;
+use numbers::imm::parse_imm;
+use numbers::imm::parse_imm64;
+use numbers::ints::Imm64;
+use numbers::ints::bits_of_i64;
+use numbers::ints::in_byte;
+use numbers::ints::in_half;
+use numbers::ints::widened;
+use numbers::literals::StrLit;
+use numbers::literals::parse_str_lit;
+use numbers::operands::Operand;
+use numbers::operands::operand_at;
+use numbers::text::Span;
+use numbers::text::span_bytes;
+ghost use mathlib.Core.Path.{_≡_};
+ghost use mathlib.Core.Bool.{_||_};
+ghost use mathlib.Core.List.{List, [], _∷_, _++_};
+ghost use Prim.Native.Nat.{ℕ, _≤_};
+ghost use lib.ListN.{length, drop};
+ghost use Rattle.numbers.specs.Results.{mapped};
+ghost use Rattle.numbers.specs.code.Spans.{spanned};
+ghost use Rattle.numbers.specs.Literals.{stringOf};
+ghost use Rattle.numbers.specs.code.Meanings.{imm64Value};
+ghost use Rattle.numbers.specs.Numbers.{immOf};
+ghost use Rattle.layout.specs.declared.directives.Store.the-variants.{Numbers};
+ghost use Rattle.layout.specs.Bytes.{isDigit};
+ghost use Rattle.layout.specs.Limits.{textLimit, dataLimit};
+ghost use Rattle.layout.specs.Directives.{gap, reservation, isLabelStart, isLabelName, widthBytes, readAt, rangeAt, unread};
+ghost use Rattle.layout.specs.Directives.{operandWrite, stringWrite, storeWrites};
+ghost use Rattle.layout.specs.Stage.{writeSize, addLabelWord, dataWrite, dataLine};
+ghost use Rattle.layout.specs.code.Steps.{Some, Steps};
+ghost use Rattle.layout.specs.code.Spans.{SpanWithin, LineIn};
+ghost use Rattle.layout.specs.code.Rows.{FewZeros, reservedOf, ReservedSmall};
+ghost use Rattle.layout.specs.code.Writes.{writeAt, WriteFits, readingAt, ReadingFits, writtenBytes, Sized};
+ghost use Rattle.layout.specs.code.Stands.{LabelWordsStand, dataStore, StoredStand, countOf, dataOf};
+
+// What an operand writes: a number of a width, a part of the text and so many bytes 0, zeros, or the address of a label.
+pub enum Write {
+    Number(Width, i64),
+    Text(Span, usize),
+    Gap(Reservation),
+    Address(Span),
+}
+
+// What an operand writes, or its refusal.
+pub enum Reading {
+    As(Write),
+    Refused(u8),
+}
+
+impl Width {
+    fn bytes(self) -> usize
+        ensures { λ r. ⌜ r ≡ widthBytes self ⌝ }
+    {
+        match self {
+            Width::Byte => 1,
+            Width::Half => 2,
+            Width::Word => 4,
+            Width::Dword => 8,
+        }
+    }
+
+    // An operand's number, as this width reads it.
+    fn read(self, s: &[u8]) -> Imm64
+        ensures { λ r. ⌜ imm64Value r ≡ readAt self (now (s .entry)) ⌝ }
+    {
+        match self {
+            Width::Byte => widened(parse_imm(s)),
+            Width::Half => widened(parse_imm(s)),
+            Width::Word => widened(parse_imm(s)),
+            Width::Dword => parse_imm64(s),
+        }
+    }
+
+    // Does this width store the number?
+    fn takes(self, v: i64) -> bool
+        ensures { λ r. ⌜ r ≡ rangeAt self v ⌝ }
+    {
+        match self {
+            Width::Byte => in_byte(v),
+            Width::Half => in_half(v),
+            Width::Word => true,
+            Width::Dword => true,
+        }
+    }
+}
+
+fn is_label_start(b: u8) -> bool
+    ensures { λ r. ⌜ r ≡ isLabelStart b ⌝ }
+{
+    ((b'a' <= b) & (b <= b'z')) | ((b'A' <= b) & (b <= b'Z')) | (b == b'_') | (b == b'.')
+}
+
+fn is_label_byte(b: u8) -> bool
+    ensures { λ r. ⌜ r ≡ isLabelStart b || isDigit b ⌝ }
+{
+    is_label_start(b) | ((b'0' <= b) & (b <= b'9'))
+}
+
+// Is s a name that a `.word` may have?
+fn is_label_name(s: &[u8]) -> bool
+    ensures { λ r. ⌜ r ≡ isLabelName (now (s .entry)) ⌝ }
+{
+    if s.len() == 0 {
+        return false;
+    }
+    if !is_label_start(s[0]) {
+        return false;
+    }
+    let mut i = 1;
+    while i < s.len() {
+        if !is_label_byte(s[i]) {
+            return false;
+        }
+        i += 1;
+    }
+    true
+}
+
+// An operand that is no number: a label's name for `.word`, else refused.
+fn unread_operand(text: &[u8], width: Width, operand: Span) -> Reading
+    requires { ⌜ SpanWithin (now text) operand ⌝ }
+    ensures { λ r. ⌜ (readingAt (now (text .entry)) r ≡ unread width (spanned (now (text .entry)) operand))
+        × ReadingFits (now (text .entry)) r ⌝ }
+{
+    let Width::Word = width else {
+        return Reading::Refused(6);
+    };
+    if !is_label_name(span_bytes(text, operand)) {
+        return Reading::Refused(8);
+    }
+    Reading::As(Write::Address(operand))
+}
+
+fn operand_write(text: &[u8], width: Width, operand: Span) -> Reading
+    requires { ⌜ SpanWithin (now text) operand ⌝ }
+    ensures { λ r. ⌜ (readingAt (now (text .entry)) r ≡ operandWrite width (spanned (now (text .entry)) operand))
+        × ReadingFits (now (text .entry)) r ⌝ }
+{
+    let Imm64::Value(v) = width.read(span_bytes(text, operand)) else {
+        return unread_operand(text, width, operand);
+    };
+    if !width.takes(v) {
+        return Reading::Refused(7);
+    }
+    Reading::As(Write::Number(width, v))
+}
+
+// A string, and so many bytes 0 after it.
+fn string_write(text: &[u8], part: Span, zeros: usize) -> Reading
+    requires { ⌜ SpanWithin (now text) part × (zeros ≤ 1) ⌝ }
+    ensures { λ r. ⌜ (readingAt (now (text .entry)) r ≡ stringWrite zeros (stringOf (spanned (now (text .entry)) part)))
+        × ReadingFits (now (text .entry)) r ⌝ }
+{
+    let StrLit::Inner(inner) = parse_str_lit(span_bytes(text, part)) else {
+        return Reading::Refused(9);
+    };
+    let between = Span {
+        start: part.start + inner.start,
+        len: inner.len,
+    };
+    Reading::As(Write::Text(between, zeros))
+}
+
+impl Write {
+    // How many bytes it takes where the data have so many.
+    fn size(self, text: &[u8], at: usize) -> usize
+        requires { ⌜ WriteFits (now text) self × (length (now text) ≤ textLimit) × (at ≤ dataLimit) ⌝ }
+        ensures { λ r. ⌜ (r ≡ writeSize at (writeAt (now (text .entry)) self)) × (r ≤ 4294967296) ⌝ }
+    {
+        match self {
+            Write::Number(width, _) => width.bytes(),
+            Write::Text(part, zeros) => part.len + zeros,
+            Write::Gap(reservation) => place_after(at, reservation) - at,
+            Write::Address(_) => 4,
+        }
+    }
+
+    // Its n bytes, at the start of the part of the data that is lent.
+    fn put(self, text: &[u8], dst: &mut [u8], n: usize)
+        requires { ⌜ WriteFits (now text) self × Sized self n × (n ≤ length (now dst)) ⌝ }
+        ensures { λ _. ⌜ now (dst .exit) ≡ writtenBytes (now (text .entry)) n self ++ drop n (now (dst .entry)) ⌝ }
+    {
+        match self {
+            Write::Number(_, v) => put_number(dst, n, bits_of_i64(v)),
+            Write::Text(part, zeros) => {
+                put_bytes(dst, span_bytes(text, part));
+                let end = part.len;
+                put_zeros(&mut dst[end..], zeros);
+            }
+            Write::Gap(_) => put_zeros(dst, n),
+            Write::Address(_) => put_zeros(dst, n),
+        }
+    }
+}
+
+// The label word that a write makes, if it makes one. The contract alone names the text.
+fn add_label_word(
+    text: &[u8],
+    label_words: &mut [u8],
+    count: usize,
+    line: u32,
+    at: usize,
+    write: Write,
+) -> Count
+    requires { ⌜ Some (LabelWordsStand (now text) count (now «label_words»)) × LineIn (now text) line
+        × WriteFits (now text) write × (at ≤ dataLimit) ⌝ }
+    ensures { λ r. ⌜ Steps (LabelWordsStand (now (text .entry))) count (now («label_words» .entry)) (countOf r) (now («label_words» .exit))
+        (addLabelWord line at (writeAt (now (text .entry)) write)) ⌝ }
+{
+    let Write::Address(name) = write else {
+        return Count::Now(count);
+    };
+    if LABEL_WORD_LIMIT <= count {
+        return Count::Stop(47);
+    }
+    let word = LabelWordRecord {
+        at: at as u32,
+        start: name.start as u32,
+        len: name.len as u32,
+        line,
+    };
+    put_label_word(label_words, count, word);
+    Count::Now(count + 1)
+}
+
+// The one place where the data grow.
+fn data_write(
+    text: &[u8],
+    data_bytes: &mut [u8],
+    label_words: &mut [u8],
+    room: Room,
+    st: DataCount,
+    line: u32,
+    write: Write,
+) -> DataStep
+    requires { ⌜ Some (StoredStand (now text) room st (dataStore (now «data_bytes») (now «label_words»))) × LineIn (now text) line
+        × WriteFits (now text) write ⌝ }
+    ensures { λ r. ⌜ Steps (StoredStand (now (text .entry)) room) st (dataStore (now («data_bytes» .entry)) (now («label_words» .entry)))
+        (dataOf r) (dataStore (now («data_bytes» .exit)) (now («label_words» .exit)))
+        (dataWrite room line (writeAt (now (text .entry)) write)) ⌝ }
+{
+    let at = st.bytes;
+    let n = write.size(text, at);
+    if room.bytes < at + n {
+        return DataStep::Stop(42);
+    }
+    write.put(text, &mut data_bytes[at..], n);
+    match add_label_word(text, label_words, st.label_words, line, at, write) {
+        Count::Now(count) => DataStep::Now(DataCount {
+            bytes: at + n,
+            label_words: count,
+        }),
+        Count::Stop(m) => DataStep::Stop(m),
+    }
+}
+
+// An operand that was read.
+fn reading_line(
+    text: &[u8],
+    data_bytes: &mut [u8],
+    label_words: &mut [u8],
+    room: Room,
+    st: DataCount,
+    line: u32,
+    reading: Reading,
+) -> DataStep
+    requires { ⌜ Some (StoredStand (now text) room st (dataStore (now «data_bytes») (now «label_words»))) × LineIn (now text) line
+        × ReadingFits (now text) reading ⌝ }
+    ensures { λ r. ⌜ Steps (StoredStand (now (text .entry)) room) st (dataStore (now («data_bytes» .entry)) (now («label_words» .entry)))
+        (dataOf r) (dataStore (now («data_bytes» .exit)) (now («label_words» .exit)))
+        (dataLine room line (readingAt (now (text .entry)) reading ∷ [])) ⌝ }
+{
+    match reading {
+        Reading::As(write) => data_write(text, data_bytes, label_words, room, st, line, write),
+        Reading::Refused(n) => DataStep::Stop(n),
+    }
+}
+
+// A directive's numbers, operand by operand.
+fn number_line(
+    text: &[u8],
+    data_bytes: &mut [u8],
+    label_words: &mut [u8],
+    room: Room,
+    st: DataCount,
+    line: u32,
+    width: Width,
+    part: Span,
+) -> DataStep
+    requires { ⌜ Some (StoredStand (now text) room st (dataStore (now «data_bytes») (now «label_words»))) × LineIn (now text) line
+        × SpanWithin (now text) part ⌝ }
+    ensures { λ r. ⌜ Steps (StoredStand (now (text .entry)) room) st (dataStore (now («data_bytes» .entry)) (now («label_words» .entry)))
+        (dataOf r) (dataStore (now («data_bytes» .exit)) (now («label_words» .exit)))
+        (dataLine room line (storeWrites (Numbers width) (spanned (now (text .entry)) part))) ⌝ }
+{
+    let bytes = span_bytes(text, part);
+    let mut now = st;
+    let mut at = 0;
+    loop {
+        let Operand::At(operand, after) = operand_at(bytes, at) else {
+            return DataStep::Now(now);
+        };
+        let place = Span {
+            start: part.start + operand.start,
+            len: operand.len,
+        };
+        let reading = operand_write(text, width, place);
+        match reading_line(text, data_bytes, label_words, room, now, line, reading) {
+            DataStep::Now(next) => {
+                now = next;
+                at = after;
+            }
+            DataStep::Stop(n) => {
+                return DataStep::Stop(n);
+            }
+        }
+    }
+}
+
+// A directive that stores, and what follows its name.
+pub fn store_line(
+    text: &[u8],
+    data_bytes: &mut [u8],
+    label_words: &mut [u8],
+    room: Room,
+    st: DataCount,
+    line: u32,
+    what: Store,
+    part: Span,
+) -> DataStep
+    requires { ⌜ Some (StoredStand (now text) room st (dataStore (now «data_bytes») (now «label_words»))) × LineIn (now text) line
+        × SpanWithin (now text) part × FewZeros what ⌝ }
+    ensures { λ r. ⌜ Steps (StoredStand (now (text .entry)) room) st (dataStore (now («data_bytes» .entry)) (now («label_words» .entry)))
+        (dataOf r) (dataStore (now («data_bytes» .exit)) (now («label_words» .exit)))
+        (dataLine room line (storeWrites what (spanned (now (text .entry)) part))) ⌝ }
+{
+    match what {
+        Store::Numbers(width) => {
+            number_line(text, data_bytes, label_words, room, st, line, width, part)
+        }
+        Store::Text(zeros) => {
+            let reading = string_write(text, part, zeros);
+            reading_line(text, data_bytes, label_words, room, st, line, reading)
+        }
+        Store::Float => DataStep::Stop(21),
+    }
+}
+
+fn gap_of(reserved: Reserved) -> Reading
+    ensures { λ r. ⌜ ((t : List ℕ) → (readingAt t r ≡ mapped gap (reservedOf reserved)) × (ReservedSmall reserved → ReadingFits t r)) ⌝ }
+{
+    match reserved {
+        Reserved::As(reservation) => Reading::As(Write::Gap(reservation)),
+        Reserved::Refused(n) => Reading::Refused(n),
+    }
+}
+
+// A directive that gives zeros, and what follows its name.
+pub fn reserve_line(
+    text: &[u8],
+    data_bytes: &mut [u8],
+    label_words: &mut [u8],
+    room: Room,
+    st: DataCount,
+    line: u32,
+    what: Reserve,
+    part: Span,
+) -> DataStep
+    requires { ⌜ Some (StoredStand (now text) room st (dataStore (now «data_bytes») (now «label_words»))) × LineIn (now text) line ⌝ }
+    ensures { λ r. ⌜ Steps (StoredStand (now (text .entry)) room) st (dataStore (now («data_bytes» .entry)) (now («label_words» .entry)))
+        (dataOf r) (dataStore (now («data_bytes» .exit)) (now («label_words» .exit)))
+        (dataLine room line (mapped gap (reservation what (immOf (spanned (now (text .entry)) part))) ∷ [])) ⌝ }
+{
+    let reading = gap_of(reservation_of(what, span_bytes(text, part)));
+    reading_line(text, data_bytes, label_words, room, st, line, reading)
+}

@@ -1,0 +1,211 @@
+// Pseudo-instructions: the table of their spellings, a text line's kind, and the words that it reserves.
+use crate::pieces::word_len;
+use numbers::imm::parse_imm_one_spaced;
+use numbers::ints::Imm;
+use numbers::ints::in_signed12;
+use numbers::operands::Operand;
+use numbers::operands::item_operand_at;
+use numbers::table::ROW;
+use numbers::table::word_in;
+use numbers::text::Span;
+use numbers::text::first_is;
+use numbers::text::span_bytes;
+use numbers::text::text_before;
+ghost use mathlib.Core.Path.{_≡_};
+ghost use Prim.Native.Nat.{min};
+ghost use Rattle.numbers.specs.code.Spans.{spanned};
+ghost use Rattle.layout.specs.Pseudos.{itemOf, pseudoOperands, liWords, pseudoWords, reservedWords, pseudoKind, itemKind};
+ghost use Rattle.layout.specs.code.Kinds.{beginsAsPseudo, kindCode, kindNumber, kindItem, kindSource};
+
+// The nine pseudo-instructions, in the order of their item kinds 1 to 9.
+pub enum Pseudo {
+    Li,
+    La,
+    Push,
+    Pop,
+    Print,
+    PrintStr,
+    Read,
+    ReadByte,
+    Random,
+}
+
+// A text line's kind, and where its source stands.
+pub enum LineKind {
+    Instr(Span),
+    Pseudo(Pseudo, Span),
+    Unsupported(Span),
+}
+
+const COUNT: usize = 20;
+
+const NAMES: [u8; COUNT * ROW] = *b"\
+    li              \
+    la              \
+    push            \
+    pop             \
+    print           \
+    print_str       \
+    printStr        \
+    printString     \
+    print_str_ln    \
+    printStrLn      \
+    read            \
+    read_byte       \
+    readByte        \
+    read_half       \
+    readHalf        \
+    read_word       \
+    readWord        \
+    random          \
+    random_bytes    \
+    randomBytes     ";
+
+// The row of each name's slot; 255 where no name has it.
+const SLOTS: [u8; 64] = *b"\
+    \xff\xff\x13\xff\xff\xff\x10\x12\xff\x0c\xff\x0f\x0e\xff\x0b\x03\
+    \xff\x0d\xff\xff\xff\xff\xff\x11\xff\x01\xff\xff\x07\xff\xff\xff\
+    \xff\xff\xff\xff\xff\x04\xff\xff\xff\xff\xff\xff\x09\xff\x06\xff\
+    \xff\x00\x0a\x05\xff\xff\x08\xff\xff\xff\xff\xff\x02\xff\xff\xff";
+
+// Beside each name its kind (`kind_numbered`), and whether it may end the line.
+const KINDS: [u8; COUNT] = [1, 2, 3, 4, 5, 6, 6, 6, 0, 0, 7, 8, 8, 0, 0, 0, 0, 9, 0, 0];
+
+const BARE: [u8; COUNT] = [0, 0, 0, 0, 1, 1, 1, 1, 1, 1, 1, 1, 1, 1, 1, 1, 1, 1, 0, 0];
+
+// What a number in a row says: an item's kind, or 0 for one of the four others.
+fn kind_numbered(kind: u8, source: Span) -> LineKind
+    ensures { λ r. ⌜ (kindNumber r ≡ min kind 9) × (kindSource r ≡ source) ⌝ }
+{
+    match kind {
+        0 => LineKind::Unsupported(source),
+        1 => LineKind::Pseudo(Pseudo::Li, source),
+        2 => LineKind::Pseudo(Pseudo::La, source),
+        3 => LineKind::Pseudo(Pseudo::Push, source),
+        4 => LineKind::Pseudo(Pseudo::Pop, source),
+        5 => LineKind::Pseudo(Pseudo::Print, source),
+        6 => LineKind::Pseudo(Pseudo::PrintStr, source),
+        7 => LineKind::Pseudo(Pseudo::Read, source),
+        8 => LineKind::Pseudo(Pseudo::ReadByte, source),
+        _ => LineKind::Pseudo(Pseudo::Random, source),
+    }
+}
+
+// Does s begin as a pseudo's name may? Most instructions do not, and are told by this alone.
+fn begins_as_pseudo(s: &[u8]) -> bool
+    ensures { λ r. ⌜ r ≡ beginsAsPseudo (now (s .entry)) ⌝ }
+{
+    first_is(s, b'l') | (first_is(s, b'p') | first_is(s, b'r'))
+}
+
+// The kind by a line's first word: a name is followed by a space or, if it may, ends the line.
+fn listed_kind(text: &[u8], source: Span) -> LineKind
+    ensures { λ r. ⌜ r ≡ kindCode (itemOf (spanned (now (text .entry)) source)) source ⌝ }
+{
+    let s = span_bytes(text, source);
+    let word = text_before(s, b' ');
+    let row = word_in(&NAMES, &SLOTS, COUNT, word);
+    if COUNT <= row {
+        return LineKind::Instr(source);
+    }
+    if (s.len() <= word.len()) & (BARE[row] == 0) {
+        return LineKind::Instr(source);
+    }
+    kind_numbered(KINDS[row], source)
+}
+
+pub fn kind_of(text: &[u8], source: Span) -> LineKind
+    ensures { λ r. ⌜ r ≡ kindCode (itemOf (spanned (now (text .entry)) source)) source ⌝ }
+{
+    if !begins_as_pseudo(span_bytes(text, source)) {
+        return LineKind::Instr(source);
+    }
+    listed_kind(text, source)
+}
+
+// The words of an li: one if it has fewer than two operands or its number is small.
+pub fn li_word_count(s: &[u8]) -> usize
+    ensures { λ r. ⌜ r ≡ liWords (pseudoOperands (now (s .entry))) ⌝ }
+{
+    let first = word_len(s);
+    let rest = &s[first..];
+    let Operand::At(_, next) = item_operand_at(rest, 0) else {
+        return 1;
+    };
+    let Operand::At(number, _) = item_operand_at(rest, next) else {
+        return 1;
+    };
+    let Imm::Value(v) = parse_imm_one_spaced(span_bytes(rest, number)) else {
+        return 2;
+    };
+    if in_signed12(v) {
+        return 1;
+    }
+    2
+}
+
+fn pseudo_words(pseudo: Pseudo, s: &[u8]) -> usize
+    ensures { λ r. ⌜ r ≡ pseudoWords «pseudo» (now (s .entry)) ⌝ }
+{
+    match pseudo {
+        Pseudo::Li => li_word_count(s),
+        Pseudo::La => 2,
+        Pseudo::Push => 2,
+        Pseudo::Pop => 2,
+        Pseudo::Print => 3,
+        Pseudo::PrintStr => 11,
+        Pseudo::Read => 6,
+        Pseudo::ReadByte => 4,
+        Pseudo::Random => 8,
+    }
+}
+
+fn pseudo_kind(pseudo: Pseudo) -> u32
+    ensures { λ r. ⌜ r ≡ pseudoKind «pseudo» ⌝ }
+{
+    match pseudo {
+        Pseudo::Li => 1,
+        Pseudo::La => 2,
+        Pseudo::Push => 3,
+        Pseudo::Pop => 4,
+        Pseudo::Print => 5,
+        Pseudo::PrintStr => 6,
+        Pseudo::Read => 7,
+        Pseudo::ReadByte => 8,
+        Pseudo::Random => 9,
+    }
+}
+
+impl LineKind {
+    // The words that a line reserves.
+    pub fn words(self, text: &[u8]) -> usize
+        ensures { λ r. ⌜ r ≡ reservedWords (kindItem self) (spanned (now (text .entry)) (kindSource self)) ⌝ }
+    {
+        match self {
+            LineKind::Instr(_) => 1,
+            LineKind::Pseudo(p, source) => pseudo_words(p, span_bytes(text, source)),
+            LineKind::Unsupported(_) => 1,
+        }
+    }
+
+    // The kind as an item's record has it.
+    pub fn number(self) -> u32
+        ensures { λ r. ⌜ r ≡ itemKind (kindItem self) ⌝ }
+    {
+        match self {
+            LineKind::Instr(_) => 0,
+            LineKind::Pseudo(p, _) => pseudo_kind(p),
+            LineKind::Unsupported(_) => 0,
+        }
+    }
+
+    pub fn source(self) -> Span
+        ensures { λ r. ⌜ r ≡ kindSource self ⌝ }
+    {
+        match self {
+            LineKind::Instr(source) => source,
+            LineKind::Pseudo(_, source) => source,
+            LineKind::Unsupported(source) => source,
+        }
+    }
+}

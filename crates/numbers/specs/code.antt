@@ -1,0 +1,4 @@
+pub mod Meanings
+pub mod Spans
+pub mod Cursors
+pub mod Tables
