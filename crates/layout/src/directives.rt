@@ -8,7 +8,7 @@ ghost use Prim.Native.Nat.{min, _≤_};
 ghost use lib.ListN.{length};
 ghost use Rattle.numbers.specs.Numbers.{immOf};
 ghost use Rattle.layout.specs.Directives.{directives, rowIn, aligned, placeAfter, reservation};
-ghost use Rattle.layout.specs.code.Rows.{directiveNumber, rowCode, SpelledWithin, reservedOf, Small, ReservedSmall};
+ghost use Rattle.layout.specs.code.Rows.{DirectiveNames, directiveNumber, rowCode, SpelledWithin, reservedOf, Small, ReservedSmall};
 
 // What a number takes in the data: 1, 2, 4 or 8 bytes.
 pub enum Width {
@@ -53,7 +53,10 @@ pub enum Spelled {
 
 const COUNT: usize = 23;
 
-const NAMES: [u8; COUNT * ROW] = *b"\
+pub type Names = [u8; COUNT * ROW];
+
+// A constant is built anew where it is used: the names are made once a call, and lent down.
+pub const NAMES: Names = *b"\
     .globl          \
     .global         \
     .type           \
@@ -109,10 +112,11 @@ fn directive_numbered(kind: u8) -> Directive
 }
 
 // The directive that a statement begins with.
-pub fn directive_of(s: &[u8]) -> Spelled
+pub fn directive_of(names: &Names, s: &[u8]) -> Spelled
+    requires { ⌜ DirectiveNames (now names) ⌝ }
     ensures { λ r. ⌜ (r ≡ rowCode (rowIn directives (now (s .entry)))) × SpelledWithin r (length (now (s .entry))) ⌝ }
 {
-    let row = prefix_in(&NAMES, COUNT, s);
+    let row = prefix_in(names, COUNT, s);
     if COUNT <= row {
         return Spelled::Nothing;
     }

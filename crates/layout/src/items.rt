@@ -1,6 +1,7 @@
 // Items: the record of a line of the text section, and the words that it reserves.
 use crate::limits::Room;
 use crate::pseudo::LineKind;
+use crate::pseudo::Names;
 use crate::pseudo::kind_of;
 use crate::records::ItemRecord;
 use crate::records::put_item;
@@ -11,7 +12,7 @@ ghost use mathlib.Core.Path.{_≡_};
 ghost use Rattle.numbers.specs.code.Spans.{spanned};
 ghost use Rattle.layout.specs.Pseudos.{itemOf};
 ghost use Rattle.layout.specs.Stage.{addItem, textLine};
-ghost use Rattle.layout.specs.code.Kinds.{kindItem, kindSource};
+ghost use Rattle.layout.specs.code.Kinds.{PseudoNames, kindItem, kindSource};
 ghost use Rattle.layout.specs.code.Steps.{Some, Steps};
 ghost use Rattle.layout.specs.code.Spans.{SpanWithin, LineIn, pieceAt};
 ghost use Rattle.layout.specs.code.Stands.{ItemsStand, itemsOf};
@@ -55,6 +56,7 @@ fn add_item(
 
 // A line of the text section.
 pub fn text_line(
+    names: &Names,
     text: &[u8],
     items: &mut [u8],
     room: Room,
@@ -62,11 +64,12 @@ pub fn text_line(
     line: u32,
     source: Span,
 ) -> ItemStep
-    requires { ⌜ Some (ItemsStand (now text) room st (now items)) × LineIn (now text) line × SpanWithin (now text) source ⌝ }
+    requires { ⌜ Some (ItemsStand (now text) room st (now items)) × LineIn (now text) line × SpanWithin (now text) source
+        × PseudoNames (now names) ⌝ }
     ensures { λ r. ⌜ Steps (ItemsStand (now (text .entry)) room) st (now (items .entry)) (itemsOf r) (now (items .exit))
         (textLine room line (pieceAt (now (text .entry)) source) (itemOf (spanned (now (text .entry)) source))) ⌝ }
 {
-    match kind_of(text, source) {
+    match kind_of(names, text, source) {
         LineKind::Instr(s) => add_item(text, items, room, st, line, LineKind::Instr(s)),
         LineKind::Pseudo(p, s) => add_item(text, items, room, st, line, LineKind::Pseudo(p, s)),
         LineKind::Unsupported(_) => ItemStep::Stop(21),

@@ -1,6 +1,7 @@
 // What a line says, read in a section: its label; a section, a symbol, an ignored directive, an equate, or what the
 // section's own rule takes.
 use crate::directives::Directive;
+use crate::directives::Names;
 use crate::directives::Reserve;
 use crate::directives::Spelled;
 use crate::directives::Spelling;
@@ -30,6 +31,7 @@ ghost use Rattle.layout.specs.Pieces.{Piece, fromByte};
 ghost use Rattle.layout.specs.Statements.{endsSectionName, sectionNamed, sectionOf, isSectionLine, sectionLine, symbolAfter};
 ghost use Rattle.layout.specs.Statements.{equateOf, equOf, otherIn, assignmentOf, reservesIn, storesIn, directiveIn};
 ghost use Rattle.layout.specs.Statements.{unlabelledOf, parsed, lineOf};
+ghost use Rattle.layout.specs.code.Rows.{DirectiveNames};
 ghost use Rattle.layout.specs.code.Spans.{spanOf, pieceAt, lineAt, statementCode, lineCode};
 
 // An equate's name and expression; the expression of an `.equ` or `.set` parted at a blank is read with each run of
@@ -255,7 +257,8 @@ fn directive_in(text: &[u8], section: Section, part: Span, spelling: Spelling) -
 }
 
 // A statement after its label. Only what begins with a dot can be a directive.
-fn unlabelled(text: &[u8], section: Section, part: Span) -> Statement
+fn unlabelled(names: &Names, text: &[u8], section: Section, part: Span) -> Statement
+    requires { ⌜ DirectiveNames (now names) ⌝ }
     ensures { λ r. ⌜ r ≡ statementCode (unlabelledOf section (pieceAt (now (text .entry)) part)) ⌝ }
 {
     let bytes = span_bytes(text, part);
@@ -265,14 +268,15 @@ fn unlabelled(text: &[u8], section: Section, part: Span) -> Statement
     if !first_is(bytes, b'.') {
         return assignment(text, section, part);
     }
-    let Spelled::As(spelling) = directive_of(bytes) else {
+    let Spelled::As(spelling) = directive_of(names, bytes) else {
         return assignment(text, section, part);
     };
     directive_in(text, section, part, spelling)
 }
 
 // The line whose statement stands at a part of the text.
-fn parsed(text: &[u8], section: Section, part: Span) -> Line
+fn parsed(names: &Names, text: &[u8], section: Section, part: Span) -> Line
+    requires { ⌜ DirectiveNames (now names) ⌝ }
     ensures { λ r. ⌜ r ≡ lineCode (parsed section (pieceAt (now (text .entry)) part)) ⌝ }
 {
     let bytes = span_bytes(text, part);
@@ -286,21 +290,21 @@ fn parsed(text: &[u8], section: Section, part: Span) -> Line
     if bytes.len() <= colon {
         return Line {
             label: LabelPart::Unnamed,
-            says: unlabelled(text, section, part),
+            says: unlabelled(names, text, section, part),
         };
     }
     let name = trim_to(text, part, colon);
     let rest = trim_from(text, part, colon + 1);
     Line {
         label: LabelPart::Named(name),
-        says: unlabelled(text, section, rest),
+        says: unlabelled(names, text, section, rest),
     }
 }
 
 // The line that stands from one place to another, read in a section: its label and what it says.
-pub fn line_of(text: &[u8], section: Section, at: usize, end: usize) -> Line
-    requires { ⌜ (at ≤ end) × (end ≤ length (now text)) ⌝ }
+pub fn line_of(names: &Names, text: &[u8], section: Section, at: usize, end: usize) -> Line
+    requires { ⌜ (at ≤ end) × (end ≤ length (now text)) × DirectiveNames (now names) ⌝ }
     ensures { λ r. ⌜ r ≡ lineCode (lineOf section (lineAt (now (text .entry)) at end)) ⌝ }
 {
-    parsed(text, section, statement_part(text, at, end))
+    parsed(names, text, section, statement_part(text, at, end))
 }

@@ -15,7 +15,7 @@ ghost use mathlib.Core.Path.{_≡_};
 ghost use Prim.Native.Nat.{min};
 ghost use Rattle.numbers.specs.code.Spans.{spanned};
 ghost use Rattle.layout.specs.Pseudos.{itemOf, pseudoOperands, liWords, pseudoWords, reservedWords, pseudoKind, itemKind};
-ghost use Rattle.layout.specs.code.Kinds.{beginsAsPseudo, kindCode, kindNumber, kindItem, kindSource};
+ghost use Rattle.layout.specs.code.Kinds.{PseudoNames, beginsAsPseudo, kindCode, kindNumber, kindItem, kindSource};
 
 // The nine pseudo-instructions, in the order of their item kinds 1 to 9.
 pub enum Pseudo {
@@ -39,7 +39,10 @@ pub enum LineKind {
 
 const COUNT: usize = 20;
 
-const NAMES: [u8; COUNT * ROW] = *b"\
+pub type Names = [u8; COUNT * ROW];
+
+// A constant is built anew where it is used: the names are made once a call, and lent down.
+pub const NAMES: Names = *b"\
     li              \
     la              \
     push            \
@@ -99,12 +102,13 @@ fn begins_as_pseudo(s: &[u8]) -> bool
 }
 
 // The kind by a line's first word: a name is followed by a space or, if it may, ends the line.
-fn listed_kind(text: &[u8], source: Span) -> LineKind
+fn listed_kind(names: &Names, text: &[u8], source: Span) -> LineKind
+    requires { ⌜ PseudoNames (now names) ⌝ }
     ensures { λ r. ⌜ r ≡ kindCode (itemOf (spanned (now (text .entry)) source)) source ⌝ }
 {
     let s = span_bytes(text, source);
     let word = text_before(s, b' ');
-    let row = word_in(&NAMES, &SLOTS, COUNT, word);
+    let row = word_in(names, &SLOTS, COUNT, word);
     if COUNT <= row {
         return LineKind::Instr(source);
     }
@@ -114,13 +118,14 @@ fn listed_kind(text: &[u8], source: Span) -> LineKind
     kind_numbered(KINDS[row], source)
 }
 
-pub fn kind_of(text: &[u8], source: Span) -> LineKind
+pub fn kind_of(names: &Names, text: &[u8], source: Span) -> LineKind
+    requires { ⌜ PseudoNames (now names) ⌝ }
     ensures { λ r. ⌜ r ≡ kindCode (itemOf (spanned (now (text .entry)) source)) source ⌝ }
 {
     if !begins_as_pseudo(span_bytes(text, source)) {
         return LineKind::Instr(source);
     }
-    listed_kind(text, source)
+    listed_kind(names, text, source)
 }
 
 // The words of an li: one if it has fewer than two operands or its number is small.

@@ -2,6 +2,7 @@
 use crate::bss::bss_line;
 use crate::data::reserve_line;
 use crate::data::store_line;
+use crate::directives;
 use crate::equates::add_equate;
 use crate::items::text_line;
 use crate::labels::label_step;
@@ -10,6 +11,7 @@ use crate::line::OwnStatement;
 use crate::line::Statement;
 use crate::line::line_of;
 use crate::pieces::line_end;
+use crate::pseudo;
 use crate::state::Count;
 use crate::state::Counters;
 use crate::state::DataStep;
@@ -28,6 +30,8 @@ ghost use Rattle.layout.specs.Limits.{textLimit};
 ghost use Rattle.layout.specs.Pieces.{lines, linePieces};
 ghost use Rattle.layout.specs.State.{start};
 ghost use Rattle.layout.specs.Stage.{ownLine, says, stepLine, lineStage};
+ghost use Rattle.layout.specs.code.Kinds.{PseudoNames};
+ghost use Rattle.layout.specs.code.Rows.{DirectiveNames};
 ghost use Rattle.layout.specs.code.Steps.{Some, Steps};
 ghost use Rattle.layout.specs.code.Spans.{lineAt, ownAt, statementAt, OwnWithin, StatementWithin, LineIn};
 ghost use Rattle.layout.specs.code.Stands.{ownStore, OwnStand, restStore, RestStand, store, Stands};
@@ -41,6 +45,7 @@ pub enum Stage {
 
 // The section's own rule.
 fn own_line(
+    pseudos: &pseudo::Names,
     text: &[u8],
     items: &mut [u8],
     data_bytes: &mut [u8],
@@ -51,7 +56,7 @@ fn own_line(
     statement: OwnStatement,
 ) -> OwnStep
     requires { ⌜ Some (OwnStand (now text) room st (ownStore (now items) (now «data_bytes») (now «label_words»))) × LineIn (now text) line
-        × OwnWithin (now text) statement ⌝ }
+        × OwnWithin (now text) statement × PseudoNames (now pseudos) ⌝ }
     ensures { λ r. ⌜ Steps (OwnStand (now (text .entry)) room) st
         (ownStore (now (items .entry)) (now («data_bytes» .entry)) (now («label_words» .entry)))
         (ownOf r) (ownStore (now (items .exit)) (now («data_bytes» .exit)) (now («label_words» .exit)))
@@ -62,7 +67,15 @@ fn own_line(
     let stored = st.stored;
     let bss = st.bss;
     match statement {
-        OwnStatement::Item(source) => match text_line(text, items, room, counted, line, source) {
+        OwnStatement::Item(source) => match text_line(
+            pseudos,
+            text,
+            items,
+            room,
+            counted,
+            line,
+            source,
+        ) {
             ItemStep::Now(items) => OwnStep::Now(OwnCounters {
                 section,
                 items,
@@ -125,6 +138,7 @@ fn own_line(
 
 // What a statement does.
 fn says(
+    pseudos: &pseudo::Names,
     text: &[u8],
     equates: &mut [u8],
     exprs: &mut [u8],
@@ -138,7 +152,7 @@ fn says(
 ) -> RestStep
     requires { ⌜ Some (RestStand (now text) room st
         (restStore (now equates) (now exprs) (now items) (now «data_bytes») (now «label_words»)))
-        × LineIn (now text) line × StatementWithin (now text) statement ⌝ }
+        × LineIn (now text) line × StatementWithin (now text) statement × PseudoNames (now pseudos) ⌝ }
     ensures { λ r. ⌜ Steps (RestStand (now (text .entry)) room) st
         (restStore (now (equates .entry)) (now (exprs .entry)) (now (items .entry)) (now («data_bytes» .entry))
         (now («label_words» .entry)))
@@ -162,6 +176,7 @@ fn says(
             }
         }
         Statement::Own(own_statement) => match own_line(
+            pseudos,
             text,
             items,
             data_bytes,
@@ -181,8 +196,10 @@ fn says(
     }
 }
 
-// The line that stands from one place to another: its label first.
+// The line that stands from one place to another: its label first. Directives and pseudos are the rows of their names.
 fn step_line(
+    directives: &directives::Names,
+    pseudos: &pseudo::Names,
     text: &[u8],
     at: usize,
     end: usize,
@@ -198,7 +215,8 @@ fn step_line(
 ) -> Step
     requires { ⌜ Some (Stands (now text) room st
         (store (now labels) (now equates) (now exprs) (now items) (now «data_bytes») (now «label_words»)))
-        × LineIn (now text) line × (at ≤ end) × (end ≤ length (now text)) ⌝ }
+        × LineIn (now text) line × (at ≤ end) × (end ≤ length (now text))
+        × DirectiveNames (now directives) × PseudoNames (now pseudos) ⌝ }
     ensures { λ r. ⌜ Steps (Stands (now (text .entry)) room) st
         (store (now (labels .entry)) (now (equates .entry)) (now (exprs .entry)) (now (items .entry)) (now («data_bytes» .entry))
         (now («label_words» .entry)))
@@ -210,11 +228,12 @@ fn step_line(
     let rest = st.rest;
     let own = rest.own;
     let section = own.section;
-    let parsed = line_of(text, section, at, end);
+    let parsed = line_of(directives, text, section, at, end);
     let label = parsed.label;
     let statement = parsed.says;
     match label_step(text, labels, room, st.labels, own.place(), line, label) {
         Count::Now(count) => match says(
+            pseudos,
             text,
             equates,
             exprs,
@@ -254,12 +273,16 @@ pub fn line_stage(
         (now («label_words» .exit)))
         r (lineStage room 0 (linePieces 0 (lines (now (text .entry)))) start) ⌝ }
 {
+    let directives = directives::NAMES;
+    let pseudos = pseudo::NAMES;
     let mut st = Counters::START;
     let mut at = 0;
     let mut line: u32 = 0;
     while at < text.len() {
         let end = line_end(text, at);
         match step_line(
+            &directives,
+            &pseudos,
             text,
             at,
             end,

@@ -1,14 +1,20 @@
 -- What the code's answers about a line of the text section mean.
 use Prim.Native.Nat.{ℕ}
-use mathlib.Core.List.{List}
+use mathlib.Core.Path.{_≡_}
+use mathlib.Core.List.{List, map}
 use mathlib.Core.Bool.{Bool, _||_}
 use mathlib.Core.Option.{Option, none, some}
 use Rattle.numbers.specs.declared.text.Span.{Span}
 use Rattle.numbers.specs.Text.{text, startsWith}
+use Rattle.numbers.specs.code.Tables.{rows}
 use Rattle.layout.specs.declared.pseudo.Pseudo.{Pseudo}
 use Rattle.layout.specs.declared.pseudo.LineKind.{LineKind}
 use Rattle.layout.specs.declared.pseudo.LineKind.the-variants as kind
-use Rattle.layout.specs.Pseudos.{Item, ordinary, pseudo, other, pseudoKind}
+use Rattle.layout.specs.Pseudos.{Item, ordinary, pseudo, other, pseudoKind, spellings}
+
+-- rows that have the spellings' names
+abbrev pub PseudoNames : List ℕ → Type 0
+PseudoNames b = rows 20 b ≡ map (λ x. x .name) spellings
 
 -- the first letters of all spellings
 abbrev pub beginsAsPseudo : List ℕ → Bool

@@ -1,8 +1,11 @@
 -- The rows of the table of directives as the code has them, and its answers about zeros.
 use Prim.Native.Nat.{ℕ, zero, suc, _≤_}
+use mathlib.Core.Path.{_≡_}
+use mathlib.Core.List.{List, map}
 use mathlib.Core.Option.{Option, none, some}
 use lib.ListN.{length}
 use Rattle.numbers.specs.Results.{Result, value, refused}
+use Rattle.numbers.specs.code.Tables.{rows}
 use Rattle.layout.specs.declared.directives.Width.the-variants.{Byte, Half, Word, Dword}
 use Rattle.layout.specs.declared.directives.Reserve.the-variants.{Space, Align}
 use Rattle.layout.specs.declared.directives.Store.{Store}
@@ -15,7 +18,11 @@ use Rattle.layout.specs.declared.directives.Reservation.{Reservation}
 use Rattle.layout.specs.declared.directives.Reservation.the-variants.{Zeros, Aligns}
 use Rattle.layout.specs.declared.directives.Reserved.{Reserved}
 use Rattle.layout.specs.declared.directives.Reserved.the-variants as reserved
-use Rattle.layout.specs.Directives.{Row}
+use Rattle.layout.specs.Directives.{Row, directives}
+
+-- rows that have the directives' names
+abbrev pub DirectiveNames : List ℕ → Type 0
+DirectiveNames b = rows 23 b ≡ map (λ r. r .name) directives
 
 -- a directive as a number in a row; a string that adds more than one byte 0 is none
 abbrev pub directiveNumber : Directive → ℕ

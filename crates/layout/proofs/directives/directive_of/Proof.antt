@@ -1,7 +1,7 @@
 -- `directives::directive_of`: the code's table is the definition's, by computing.
 use mathlib.Core.Path.{_≡_, refl}
 use denote.Ref.{now}
-use Rattle.numbers.specs.code.Tables.{rows, rowName, prefixIn}
+use Rattle.numbers.specs.code.Tables.{prefixIn}
 use Rattle.layout.specs.Directives.{directives}
 use Rattle.layout.proofs.DirectiveLaws.{names, row-past, row-here, length-fits}
 use mir.Syntax.{w64}
@@ -12,8 +12,7 @@ use Rattle.layout.proofs.directives.directive_of.Statement.{statement}
 use Rattle.layout.proofs.directives.directive_of.Tie as tie
 
 placed : (d : tie.After-prefix-in) → d .prefix-in .result ≡ prefixIn (names directives) (now (d .before .before .before .args .s))
-unfolding directives rows rowName
-placed d = d .prefix-in .ensures
+placed d = rw (d .before .before .before .pre) at (d .prefix-in .ensures)
 
 returns : tie.Need-returns
 unfolding directives
@@ -37,7 +36,6 @@ pub directive-of-spec : {M : Type 1} → statement M
 directive-of-spec =
     tie.close
     (tie.spec
-    (λ c. search needs)  -- slice-aggregate-prefix-in
     (λ c κs. search needs)  -- prefix-in-requires
     returns
     (λ c. search needs)  -- array-read-directive-numbered

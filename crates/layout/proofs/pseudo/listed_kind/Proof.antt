@@ -4,7 +4,7 @@ use native.Mathlib.Omega.{arith}
 use denote.Ref.{now}
 use Rattle.numbers.specs.Text.{before}
 use Rattle.numbers.specs.code.Spans.{spanned}
-use Rattle.numbers.specs.code.Tables.{rows, rowName, indexIn, slotOf, slotted}
+use Rattle.numbers.specs.code.Tables.{indexIn, slotOf, slotted}
 use Rattle.numbers.proofs.Rows.{before-word}
 use Rattle.layout.specs.Pseudos.{spellings}
 use Rattle.layout.proofs.PseudoLaws.{names, spellings-sound, line-plain, line-ended, line-named}
@@ -15,12 +15,12 @@ use Rattle.layout.proofs.pseudo.listed_kind.Tie as tie
 placed : (d : tie.After-word-in) → d .word-in .result
     ≡ indexIn (names spellings)
     (before 32 (spanned (now (d .before .before .before .before .before .before .args .text)) (d .before .before .before .before .before .before .args .source)))
-unfolding spellings rows rowName
-placed d = rw (d .before .before .before .text-before .ensures, d .before .before .before .before .span-bytes .ensures) at (d .word-in .ensures)
+placed d = rw (d .before .before .before .before .before .before .pre, d .before .before .before .text-before .ensures, d .before .before .before .before .span-bytes .ensures) at (d .word-in .ensures)
 
 word-in-requires : tie.Need-word-in-requires
-unfolding slotted slotOf rows rowName
-word-in-requires c κs = (omega arith, rw (c .before .before .text-before .ensures) (before-word _), refl)
+unfolding slotted slotOf spellings
+word-in-requires c κs =
+    (omega arith, rw (c .before .before .text-before .ensures) (before-word _), rw (c .before .before .before .before .before .pre) refl)
 
 returns : tie.Need-returns
 unfolding spellings
@@ -50,7 +50,6 @@ listed-kind-spec =
     (tie.spec
     (λ c κs. search needs)  -- span-bytes-requires
     (λ c κs. search needs)  -- text-before-requires
-    (λ c. search needs)  -- slice-aggregate-word-in
     word-in-requires
     returns
     (λ c. search needs)  -- array-read-if2

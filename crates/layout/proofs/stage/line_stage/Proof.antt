@@ -4,6 +4,11 @@ use mathlib.Core.Path.{_≡_, refl, ap, _∙_}
 use native.Mathlib.Omega.{arith}
 use lib.ListN.{length}
 use denote.Ref.{now}
+use Rattle.numbers.specs.code.Tables.{rows, rowName}
+use Rattle.layout.specs.Pseudos.{spellings}
+use Rattle.layout.specs.Directives as table
+use Rattle.layout.specs.code.Kinds.{PseudoNames}
+use Rattle.layout.specs.code.Rows.{DirectiveNames}
 use Rattle.layout.specs.code.Stands.{store, stepOf}
 use Rattle.layout.proofs.TurnLaws.{Head, end-within, head-first, turn-go, turn-stop, turns-end}
 use borrow.Author.Needs.{needs}
@@ -11,31 +16,35 @@ use Rattle.layout.proofs.stage.line_stage.Statement.{statement}
 use Rattle.layout.proofs.stage.line_stage.Tie as tie
 
 abbrev Inv-loop : tie.InvT-loop
-Inv-loop text labels₀ equates₀ exprs₀ items₀ data-bytes₀ label-words₀ room st₀ at₀ line₀ labels equates exprs items data-bytes label-words st at line =
+Inv-loop text labels₀ equates₀ exprs₀ items₀ data-bytes₀ label-words₀ room directives pseudos st₀ at₀ line₀ labels equates exprs items data-bytes label-words st at line =
     Head text room (store labels equates exprs items data-bytes label-words) st at line × (length labels ≡ length labels₀)
     × (length equates ≡ length equates₀)
     × (length exprs ≡ length exprs₀) × (length items ≡ length items₀) × (length data-bytes ≡ length data-bytes₀)
     × (length label-words ≡ length label-words₀)
+    × DirectiveNames directives × PseudoNames pseudos
 
 abbrev μ-loop : tie.MeasureT-loop
-μ-loop text labels₀ equates₀ exprs₀ items₀ data-bytes₀ label-words₀ room st₀ at₀ line₀ labels equates exprs items data-bytes label-words st at line = length text - at
+μ-loop text labels₀ equates₀ exprs₀ items₀ data-bytes₀ label-words₀ room directives pseudos st₀ at₀ line₀ labels equates exprs items data-bytes label-words st at line = length text - at
 
 loop-holds : tie.Need-loop-holds Inv-loop μ-loop
-loop-holds c = (head-first _ _ _ (c .before .before .before .before .before .before .before .pre .1), refl, refl, refl, refl, refl, refl)
+unfolding spellings table.directives rows rowName
+loop-holds c = (head-first _ _ _ (c .before .before .before .before .before .before .before .pre .1), refl, refl, refl, refl, refl, refl, refl, refl)
 
 line-end-requires : tie.Need-line-end-requires Inv-loop μ-loop
 line-end-requires c κs = search needs
 
 step-line-requires : tie.Need-step-line-requires Inv-loop μ-loop
 step-line-requires c κs =
-    let s = c .before .before .before .before .before .before .before .before .before .before .before .before .before .before .before .before in
-    let l = c .before .before .before .before .before .before .before .before .loop in
-    let below = c .before .before .before .before .before .before .before .loop-test .taken in
-    let e = c .before .before .before .before .before .before .line-end .ensures in (
+    let s = c .before .before .before .before .before .before .before .before .before .before .before .before .before .before .before .before .before .before in
+    let l = c .before .before .before .before .before .before .before .before .before .before .loop in
+    let below = c .before .before .before .before .before .before .before .before .before .loop-test .taken in
+    let e = c .before .before .before .before .before .before .before .before .line-end .ensures in (
       record { it = l .inv .0 .σ; stands = l .inv .0 .stands },
       (s .pre .0, omega (arith, l .inv .0 .counted, below)),
       omega (arith, e),
       end-within (now (s .args .text)) (l .at) _ below e,
+      l .inv .7,
+      l .inv .8,
     )
 
 enum-known-next : tie.Need-enum-known-next Inv-loop μ-loop
@@ -65,42 +74,44 @@ same-length-6 c = search needs
 returns : tie.Need-returns Inv-loop μ-loop
 returns c =
     let step = c .before .before .before .before .before .before .before .before .before .before .before .before .before .before .before in
-    let e = step .before .before .before .before .before .before .before in
+    let e = step .before .before .before .before .before .before .before .before .before in
     let l = e .before .before in
     rw (turn-stop _ _ _ _ _ _ (l .loop .inv .0) (e .line-end .result) (e .before .loop-test .taken) (e .line-end .ensures) _ _ (step .step-line .ensures) _ (ap stepOf (c .before .n .given .1))) (refl, refl)
 
 add-at : tie.Need-add-at Inv-loop μ-loop
 add-at c =
-    let e = c .before .before .before .before .before .before .before .before .before .before .before .before .before .before .before .before .before .before .before .before .before .before in
+    let e = c .before .before .before .before .before .before .before .before .before .before .before .before .before .before .before .before .before .before .before .before .before .before .before .before in
     let l = e .before .before in
     let s = l .before .before .before .before .before .before .before .before in
     omega (arith, end-within (now (s .args .text)) (l .loop .at) (e .line-end .result) (e .before .loop-test .taken) (e .line-end .ensures), s .pre .0)
 
 add-line : tie.Need-add-line Inv-loop μ-loop
 add-line c =
-    let e = c .before .before .before .before .before .before .before .before .before .before .before .before .before .before .before .before .before .before .before .before .before .before in
+    let e = c .before .before .before .before .before .before .before .before .before .before .before .before .before .before .before .before .before .before .before .before .before .before .before .before in
     let l = e .before .before in
     let s = l .before .before .before .before .before .before .before .before in
     omega (arith, l .loop .inv .0 .counted, e .before .loop-test .taken, s .pre .0)
 
 loop-less : tie.Need-loop-less Inv-loop μ-loop
-loop-less c = search needs
+loop-less c = let e = c .before .before .before .before .before .before .before .before .before .before .before .before .before .before .before .before .before .before .before .before .before .before .before .before in omega (arith, e .line-end .ensures, e .before .loop-test .taken)
 
 loop-again : tie.Need-loop-again Inv-loop μ-loop
 loop-again c =
     let step = c .before .before .before .before .before .before .before .before .before .before .before .before .before .before .before in
-    let e = step .before .before .before .before .before .before .before in
+    let e = step .before .before .before .before .before .before .before .before .before in
     let l = e .before .before in
     let k = step .step-line .kept in
     let v = l .loop .inv in (
       turn-go _ _ _ _ _ _ (l .loop .inv .0) (e .line-end .result) (e .before .loop-test .taken) (e .line-end .ensures) _ _
           (step .step-line .ensures) _ (ap stepOf (c .before .next .given .1)),
-      k .1 .1 .1 .0 ∙ v .1,
-      k .1 .1 .1 .1 .0 ∙ v .2,
-      k .1 .1 .1 .1 .1 .0 ∙ v .3,
-      k .1 .1 .1 .1 .1 .1 .0 ∙ v .4,
-      k .1 .1 .1 .1 .1 .1 .1 .0 ∙ v .5,
-      k .1 .1 .1 .1 .1 .1 .1 .1 .0 ∙ v .6,
+      k .1 .1 .1 .1 .1 .0 ∙ v .1,
+      k .1 .1 .1 .1 .1 .1 .0 ∙ v .2,
+      k .1 .1 .1 .1 .1 .1 .1 .0 ∙ v .3,
+      k .1 .1 .1 .1 .1 .1 .1 .1 .0 ∙ v .4,
+      k .1 .1 .1 .1 .1 .1 .1 .1 .1 .0 ∙ v .5,
+      k .1 .1 .1 .1 .1 .1 .1 .1 .1 .1 .0 ∙ v .6,
+      v .7,
+      v .8,
     )
 
 same-length-7 : tie.Need-same-length-7 Inv-loop μ-loop

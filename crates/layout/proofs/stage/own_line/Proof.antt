@@ -10,7 +10,7 @@ use Rattle.layout.proofs.stage.own_line.Tie as tie
 text-line-requires : tie.Need-text-line-requires
 text-line-requires c κs =
     let s = c .before .before .before .before .before .before .before .before .before .before in
-    (record { it = s .pre .0 .it .items; stands = s .pre .0 .stands .items }, s .pre .1, rw (c .before .before .statement .given .1) at (s .pre .2))
+    (record { it = s .pre .0 .it .items; stands = s .pre .0 .stands .items }, s .pre .1, rw (c .before .before .statement .given .1) at (s .pre .2), s .pre .3)
 
 store-line-requires : tie.Need-store-line-requires
 store-line-requires c κs =

@@ -20,7 +20,7 @@ add-equate-requires c κs =
 own-line-requires : tie.Need-own-line-requires
 own-line-requires c κs =
     let s = c .before .before .before .before .before .before .before .before .before .before .before .before .before in
-    (record { it = s .pre .0 .it .own; stands = s .pre .0 .stands .own }, s .pre .1, rw (c .before .before .before .before .statement3 .given .1) at (s .pre .2))
+    (record { it = s .pre .0 .it .own; stands = s .pre .0 .stands .own }, s .pre .1, rw (c .before .before .before .before .statement3 .given .1) at (s .pre .2), s .pre .3)
 
 returns : tie.Need-returns
 unfolding says

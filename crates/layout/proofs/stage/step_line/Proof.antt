@@ -30,6 +30,7 @@ says-requires c κs =
       s .pre .1,
       line-says-within (now (a .text)) (a .at) (a .end) (s .pre .2) (s .pre .3) (a .st .rest .own .section) (l .line-of .result)
           (l .line-of .ensures),
+      s .pre .5,
     )
 
 returns : tie.Need-returns
