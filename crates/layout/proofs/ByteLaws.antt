@@ -138,3 +138,20 @@ four-at xs at h =
       drop-cons xs (suc (suc (suc at))) 0 (omega arith),
     )
     (omega arith)
+
+-- eight bytes are four low and four high
+eights : (ys : List ℕ) → 8 ≤ length ys → leValue (take 4 ys) + 4294967296 * leValue (take 4 (drop 4 ys)) ≡ leValue (take 8 ys)
+unfolding leValue
+eights [] h = absurd (omega arith)
+eights (a ∷ []) h = absurd (omega arith)
+eights (a ∷ b ∷ []) h = absurd (omega arith)
+eights (a ∷ b ∷ c ∷ []) h = absurd (omega arith)
+eights (a ∷ b ∷ c ∷ d ∷ []) h = absurd (omega arith)
+eights (a ∷ b ∷ c ∷ d ∷ e ∷ []) h = absurd (omega arith)
+eights (a ∷ b ∷ c ∷ d ∷ e ∷ f ∷ []) h = absurd (omega arith)
+eights (a ∷ b ∷ c ∷ d ∷ e ∷ f ∷ g ∷ []) h = absurd (omega arith)
+eights (a ∷ b ∷ c ∷ d ∷ e ∷ f ∷ g ∷ i ∷ ys) h = omega arith
+
+pub eight-at : (xs : List ℕ) (at : ℕ) → at + 8 ≤ length xs
+    → leValue (take 4 (drop at xs)) + 4294967296 * leValue (take 4 (drop (at + 4) xs)) ≡ leValue (take 8 (drop at xs))
+eight-at xs at h = rw (← drop-drop 4 at xs) (eights (drop at xs) (rw (length-drop at xs) (omega arith)))

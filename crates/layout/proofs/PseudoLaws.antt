@@ -87,13 +87,13 @@ no-name (x ∷ xs) s p h =
     (no-name xs s (and-right (not (isName (x .name) xs)) (sound xs) q) (or-right (same (x .name) (before 32 s)) (isName (before 32 s) xs) h))
 
 -- the item at a place, where the line goes on after its first word or the spelling may end it
-unfoldable itemAt : List Spelling → ℕ → Bool → Item
-itemAt [] i t = ordinary
-itemAt (x ∷ xs) zero t = cond (not (t && not (x .bare))) (x .item) ordinary
-itemAt (x ∷ xs) (suc i) t = itemAt xs i t
+unfoldable listedItem : List Spelling → ℕ → Bool → Item
+listedItem [] i t = ordinary
+listedItem (x ∷ xs) zero t = cond (not (t && not (x .bare))) (x .item) ordinary
+listedItem (x ∷ xs) (suc i) t = listedItem xs i t
 
-item-indexed : (xs : List Spelling) (s : List ℕ) → sound xs ≡ true → itemIn xs s ≡ itemAt xs (indexIn (names xs) (before 32 s)) (endsLine s)
-unfolding sound itemIn itemAt indexIn
+item-indexed : (xs : List Spelling) (s : List ℕ) → sound xs ≡ true → itemIn xs s ≡ listedItem xs (indexIn (names xs) (before 32 s)) (endsLine s)
+unfolding sound itemIn listedItem indexIn
 item-indexed [] s p = refl
 item-indexed (x ∷ xs) s p =
     let n = and-left (isWord (x .name)) (not (isName (x .name) xs) && sound xs) p in
@@ -103,15 +103,15 @@ item-indexed (x ∷ xs) s p =
     (and-right (not (isName (x .name) xs)) (sound xs) q) (item-indexed xs s (and-right (not (isName (x .name) xs)) (sound xs) q)))
   where
     go : (t : Bool) → same (x .name) (before 32 s) ≡ t → isName (x .name) xs ≡ false → sound xs ≡ true
-        → itemIn xs s ≡ itemAt xs (indexIn (names xs) (before 32 s)) (endsLine s)
+        → itemIn xs s ≡ listedItem xs (indexIn (names xs) (before 32 s)) (endsLine s)
         → cond (t && not (endsLine s && not (x .bare))) (x .item) (itemIn xs s)
-        ≡ itemAt (x ∷ xs) (cond t 0 (suc (indexIn (names xs) (before 32 s)))) (endsLine s)
+        ≡ listedItem (x ∷ xs) (cond t 0 (suc (indexIn (names xs) (before 32 s)))) (endsLine s)
     go true e a q ih = rw (no-name xs s q (rw (same-equal (x .name) (before 32 s) e) at a)) refl
     go false e a q ih = ih
 
 -- past the last row, and at a row
-item-none : (xs : List Spelling) (i : ℕ) (t : Bool) → length xs ≤ i → itemAt xs i t ≡ ordinary
-unfolding itemAt
+item-none : (xs : List Spelling) (i : ℕ) (t : Bool) → length xs ≤ i → listedItem xs i t ≡ ordinary
+unfolding listedItem
 item-none [] i t h = refl
 item-none (x ∷ xs) zero t h = absurd (omega arith)
 item-none (x ∷ xs) (suc i) t h = item-none xs i t (omega arith)
@@ -120,8 +120,8 @@ abbrev noSpelling : Spelling
 noSpelling = record { name = []; item = other; bare = false }
 
 item-row : (xs : List Spelling) (i : ℕ) (t : Bool) → i < length xs
-    → itemAt xs i t ≡ cond (not (t && not (getD xs i noSpelling .bare))) (getD xs i noSpelling .item) ordinary
-unfolding itemAt
+    → listedItem xs i t ≡ cond (not (t && not (getD xs i noSpelling .bare))) (getD xs i noSpelling .item) ordinary
+unfolding listedItem
 item-row [] i t h = absurd (omega arith)
 item-row (x ∷ xs) zero t h = refl
 item-row (x ∷ xs) (suc i) t h = item-row xs i t (omega arith)
@@ -169,7 +169,7 @@ module _ (q : Span) where
 
   -- the row that the code finds: none, one that may not end the line, or one whose columns say what it is
   module _ (xs : List Spelling) (s : List ℕ) (ok : sound xs ≡ true) (i : ℕ) (at : i ≡ indexIn (names xs) (before 32 s)) where
-    placed : itemIn xs s ≡ itemAt xs i (endsLine s)
+    placed : itemIn xs s ≡ listedItem xs i (endsLine s)
     placed = rw at (item-indexed xs s ok)
 
     pub line-plain : length xs ≤ i → kind.Instr q ≡ kindCode (itemIn xs s) q

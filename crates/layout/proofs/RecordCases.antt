@@ -1,14 +1,23 @@
--- Cases beyond the twelve, by computing on the definitions: whole answers in small buffers, byte by byte; each pseudo's words; data;
--- expressions and rounds; and refusals in document 01's order. The numbers are worked from document 01 and from the manual's formats.
+-- Cases beyond the twelve, by computing on the definitions: whole answers in small buffers, byte by byte; each pseudo's words; records
+-- read back; data; expressions and rounds; and refusals in document 01's order. The numbers are worked from document 01 and from the manual's formats.
 use Prim.Native.Nat.{ℕ}
 use mathlib.Core.Path.{_≡_, refl}
+use mathlib.Core.Bool.{true, false}
 use mathlib.Core.List.{List, [], _∷_, _++_, map}
 use lib.IntN.{ℤ, pos, negsuc}
 use lib.ListN.{length, replicate}
 use Rattle.numbers.specs.Results.{Result, value, refused, mapped}
 use Rattle.numbers.specs.Text.{text}
 use Rattle.layout.specs.Refusals.{Refusal}
-use Rattle.layout.specs.Limits.{Lent, roomOf}
+use Rattle.layout.specs.declared.records.LabelRecord.{LabelRecord}
+use Rattle.layout.specs.declared.records.EquateRecord.{EquateRecord}
+use Rattle.layout.specs.declared.records.ItemRecord.{ItemRecord}
+use Rattle.layout.specs.declared.records.ExprRecord.{ExprRecord}
+use Rattle.layout.specs.declared.records.LabelWordRecord.{LabelWordRecord}
+use Rattle.layout.specs.Limits.{Lent, roomOf, labelSize, equateSize, itemSize}
+use Rattle.layout.specs.Records.{fieldBytes, labelFields, equateFields, itemFields}
+use Rattle.layout.specs.code.Tables.{leValue, exprSize, labelWordSize, exprFields, labelWordFields}
+use Rattle.layout.specs.code.Tables.{labelRecordAt, equateRecordAt, itemRecordAt, exprRecordAt, labelWordRecordAt}
 use Rattle.layout.specs.Directives.{addressOf}
 use Rattle.layout.specs.Stage.{addLabelWord}
 use Rattle.layout.specs.Layouts.{layoutOf, callOf}
@@ -138,6 +147,25 @@ pub pseudo-cases :
     × (mapped (λ l. map (λ x. x .address) (l .labels)) (laid nine) ≡ value (168 ∷ []))
 unfolding computing
 pseudo-cases = (refl, refl, refl, refl, refl, refl, refl, refl, refl, refl, refl, refl, refl, refl, refl)
+
+-- ---- records read back
+
+-- the second of two records is the one that was written: no two fields are alike, an equate's value is negative
+pub read-back-cases :
+    (let r : LabelRecord = record { start = 65535; len = 3; address = 0x81234560; line = 65536 } in
+    labelRecordAt (replicate labelSize 9 ++ fieldBytes (labelFields r)) 1 ≡ r)
+    × (let r : EquateRecord = record { start = 65535; len = 3; line = 65536; value = negsuc 0x123456789ABCDEF0; round = 255 } in
+    equateRecordAt (replicate equateSize 9 ++ fieldBytes (equateFields r)) 1 ≡ r)
+    × (let r : ItemRecord = record { address = 0x81234560; line = 65536; kind = 9; first = 16383; start = 65535; len = 3 } in
+    itemRecordAt (replicate itemSize 9 ++ fieldBytes (itemFields r)) 1 ≡ r)
+    × (let r : ExprRecord = record { start = 65535; len = 3; «one_space» = true; place = 0x1000004 } in
+    exprRecordAt (replicate exprSize 9 ++ fieldBytes (exprFields r)) 1 ≡ r)
+    × (let r : ExprRecord = record { start = 65535; len = 3; «one_space» = false; place = 0x1000004 } in
+    exprRecordAt (replicate exprSize 9 ++ fieldBytes (exprFields r)) 1 ≡ r)
+    × (let r : LabelWordRecord = record { at = 65532; start = 65535; len = 3; line = 65536 } in
+    labelWordRecordAt (replicate labelWordSize 9 ++ fieldBytes (labelWordFields r)) 1 ≡ r)
+unfolding computing leValue
+read-back-cases = (refl, refl, refl, refl, refl, refl)
 
 -- ---- data
 

@@ -6,15 +6,16 @@ use crate::limits::LABEL_SIZE;
 use crate::limits::LABEL_WORD_SIZE;
 use crate::writers::put_number;
 use numbers::ints::bits_of_i64;
+use numbers::ints::i64_of_bits;
 ghost use mathlib.Core.Path.{_≡_};
 ghost use Prim.Native.Nat.{_+_, _*_, _≤_};
 ghost use lib.ListN.{length, take, drop};
-ghost use Rattle.numbers.specs.Ints.{bits};
+ghost use Rattle.numbers.specs.Ints.{bits, signedOf};
 ghost use Rattle.layout.specs.Bytes.{le, put};
 ghost use Rattle.layout.specs.Limits.{labelSize, equateSize, itemSize};
 ghost use Rattle.layout.specs.Records.{fieldBytes, labelFields, equateFields, itemFields};
 ghost use Rattle.layout.specs.code.Tables.{leValue, flagOf, exprSize, labelWordSize, exprFields, labelWordFields};
-ghost use Rattle.layout.specs.code.Tables.{labelAt, itemAt, labelWordAt};
+ghost use Rattle.layout.specs.code.Tables.{eightAt, labelRecordAt, equateRecordAt, itemRecordAt, exprRecordAt, labelWordRecordAt};
 
 // A label: its name's start and length, its address and line. Before the sections' starts are known the address is the
 // code of its place.
@@ -92,6 +93,15 @@ fn put_i64(buf: &mut [u8], at: usize, v: i64)
     put_number(&mut buf[at..], 8, bits_of_i64(v));
 }
 
+fn get_i64(buf: &[u8], at: usize) -> i64
+    requires { ⌜ at + 8 ≤ length (now buf) ⌝ }
+    ensures { λ r. ⌜ r ≡ signedOf 64 (eightAt (now (buf .entry)) at) ⌝ }
+{
+    let low = get_u32(buf, at) as u64;
+    let high = get_u32(buf, at + 4) as u64;
+    i64_of_bits(low + 4294967296 * high)
+}
+
 pub fn put_label(labels: &mut [u8], k: usize, r: LabelRecord)
     requires { ⌜ k * labelSize + labelSize ≤ length (now labels) ⌝ }
     ensures { λ _. ⌜ now (labels .exit) ≡ put (k * labelSize) (fieldBytes (labelFields r)) (now (labels .entry)) ⌝ }
@@ -105,7 +115,7 @@ pub fn put_label(labels: &mut [u8], k: usize, r: LabelRecord)
 
 pub fn get_label(labels: &[u8], k: usize) -> LabelRecord
     requires { ⌜ k * labelSize + labelSize ≤ length (now labels) ⌝ }
-    ensures { λ r. ⌜ r ≡ labelAt (now (labels .entry)) k ⌝ }
+    ensures { λ r. ⌜ r ≡ labelRecordAt (now (labels .entry)) k ⌝ }
 {
     let at = k * LABEL_SIZE;
     LabelRecord {
@@ -128,6 +138,20 @@ pub fn put_equate(equates: &mut [u8], k: usize, r: EquateRecord)
     put_u32(equates, at + 20, r.round);
 }
 
+pub fn get_equate(equates: &[u8], k: usize) -> EquateRecord
+    requires { ⌜ k * equateSize + equateSize ≤ length (now equates) ⌝ }
+    ensures { λ r. ⌜ r ≡ equateRecordAt (now (equates .entry)) k ⌝ }
+{
+    let at = k * EQUATE_SIZE;
+    EquateRecord {
+        start: get_u32(equates, at),
+        len: get_u32(equates, at + 4),
+        line: get_u32(equates, at + 8),
+        value: get_i64(equates, at + 12),
+        round: get_u32(equates, at + 20),
+    }
+}
+
 pub fn put_item(items: &mut [u8], k: usize, r: ItemRecord)
     requires { ⌜ k * itemSize + itemSize ≤ length (now items) ⌝ }
     ensures { λ _. ⌜ now (items .exit) ≡ put (k * itemSize) (fieldBytes (itemFields r)) (now (items .entry)) ⌝ }
@@ -143,7 +167,7 @@ pub fn put_item(items: &mut [u8], k: usize, r: ItemRecord)
 
 pub fn get_item(items: &[u8], k: usize) -> ItemRecord
     requires { ⌜ k * itemSize + itemSize ≤ length (now items) ⌝ }
-    ensures { λ r. ⌜ r ≡ itemAt (now (items .entry)) k ⌝ }
+    ensures { λ r. ⌜ r ≡ itemRecordAt (now (items .entry)) k ⌝ }
 {
     let at = k * ITEM_SIZE;
     ItemRecord {
@@ -176,6 +200,19 @@ pub fn put_expr(exprs: &mut [u8], k: usize, r: ExprRecord)
     put_u32(exprs, at + 12, r.place);
 }
 
+pub fn get_expr(exprs: &[u8], k: usize) -> ExprRecord
+    requires { ⌜ k * exprSize + exprSize ≤ length (now exprs) ⌝ }
+    ensures { λ r. ⌜ r ≡ exprRecordAt (now (exprs .entry)) k ⌝ }
+{
+    let at = k * EXPR_SIZE;
+    ExprRecord {
+        start: get_u32(exprs, at),
+        len: get_u32(exprs, at + 4),
+        one_space: get_u32(exprs, at + 8) == 1,
+        place: get_u32(exprs, at + 12),
+    }
+}
+
 pub fn put_label_word(label_words: &mut [u8], k: usize, r: LabelWordRecord)
     requires { ⌜ k * labelWordSize + labelWordSize ≤ length (now «label_words») ⌝ }
     ensures { λ _. ⌜ now («label_words» .exit) ≡ put (k * labelWordSize) (fieldBytes (labelWordFields r)) (now («label_words» .entry)) ⌝ }
@@ -189,7 +226,7 @@ pub fn put_label_word(label_words: &mut [u8], k: usize, r: LabelWordRecord)
 
 pub fn get_label_word(label_words: &[u8], k: usize) -> LabelWordRecord
     requires { ⌜ k * labelWordSize + labelWordSize ≤ length (now «label_words») ⌝ }
-    ensures { λ r. ⌜ r ≡ labelWordAt (now («label_words» .entry)) k ⌝ }
+    ensures { λ r. ⌜ r ≡ labelWordRecordAt (now («label_words» .entry)) k ⌝ }
 {
     let at = k * LABEL_WORD_SIZE;
     LabelWordRecord {

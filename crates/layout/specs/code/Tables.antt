@@ -3,16 +3,19 @@ use Prim.Native.Nat.{ℕ, zero, suc, _+_, _*_, _<_}
 use mathlib.Core.List.{List, [], _∷_}
 use mathlib.Core.Bool.{Bool, true, false}
 use mathlib.Core.Option.{Option, none, some}
+use lib.Dec.{eqb}
 use lib.ListN.{take, drop}
+use Rattle.numbers.specs.Ints.{signedOf}
 use Rattle.numbers.specs.Text.{same}
 use Rattle.numbers.specs.code.Spans.{spanned}
 use Rattle.layout.specs.declared.records.LabelRecord.{LabelRecord}
+use Rattle.layout.specs.declared.records.EquateRecord.{EquateRecord}
 use Rattle.layout.specs.declared.records.ItemRecord.{ItemRecord}
 use Rattle.layout.specs.declared.records.ExprRecord.{ExprRecord}
 use Rattle.layout.specs.declared.records.LabelWordRecord.{LabelWordRecord}
 use Rattle.layout.specs.declared.labels.Lookup.{Lookup}
 use Rattle.layout.specs.declared.labels.Lookup.the-variants as lookup
-use Rattle.layout.specs.Limits.{labelSize, equateLimit, itemSize, labelWordLimit}
+use Rattle.layout.specs.Limits.{labelSize, equateSize, equateLimit, itemSize, labelWordLimit}
 use Rattle.layout.specs.Records.{Field, four}
 
 -- ---- an equate's expression, and a label word: 16 bytes each
@@ -51,9 +54,13 @@ leValue (b ∷ bs) = b + 256 * leValue bs
 abbrev pub fourAt : List ℕ → ℕ → ℕ
 fourAt b at = leValue (take 4 (drop at b))
 
+-- the number in the eight bytes at a place
+abbrev pub eightAt : List ℕ → ℕ → ℕ
+eightAt b at = leValue (take 8 (drop at b))
+
 -- the kth record of a table
-abbrev pub labelAt : List ℕ → ℕ → LabelRecord
-labelAt b k =
+abbrev pub labelRecordAt : List ℕ → ℕ → LabelRecord
+labelRecordAt b k =
     record {
       start = fourAt b (k * labelSize);
       len = fourAt b (k * labelSize + 4);
@@ -61,8 +68,18 @@ labelAt b k =
       line = fourAt b (k * labelSize + 12);
     }
 
-abbrev pub itemAt : List ℕ → ℕ → ItemRecord
-itemAt b k =
+abbrev pub equateRecordAt : List ℕ → ℕ → EquateRecord
+equateRecordAt b k =
+    record {
+      start = fourAt b (k * equateSize);
+      len = fourAt b (k * equateSize + 4);
+      line = fourAt b (k * equateSize + 8);
+      value = signedOf 64 (eightAt b (k * equateSize + 12));
+      round = fourAt b (k * equateSize + 20);
+    }
+
+abbrev pub itemRecordAt : List ℕ → ℕ → ItemRecord
+itemRecordAt b k =
     record {
       address = fourAt b (k * itemSize);
       line = fourAt b (k * itemSize + 4);
@@ -72,8 +89,17 @@ itemAt b k =
       len = fourAt b (k * itemSize + 20);
     }
 
-abbrev pub labelWordAt : List ℕ → ℕ → LabelWordRecord
-labelWordAt b k =
+abbrev pub exprRecordAt : List ℕ → ℕ → ExprRecord
+exprRecordAt b k =
+    record {
+      start = fourAt b (k * exprSize);
+      len = fourAt b (k * exprSize + 4);
+      «one_space» = eqb (fourAt b (k * exprSize + 8)) 1;
+      place = fourAt b (k * exprSize + 12);
+    }
+
+abbrev pub labelWordRecordAt : List ℕ → ℕ → LabelWordRecord
+labelWordRecordAt b k =
     record {
       at = fourAt b (k * labelWordSize);
       start = fourAt b (k * labelWordSize + 4);
@@ -85,7 +111,7 @@ labelWordAt b k =
 
 -- the name in the kth label record, and those in n records from the kth on
 abbrev pub labelNameAt : List ℕ → List ℕ → ℕ → List ℕ
-labelNameAt t b k = spanned t (record { start = labelAt b k .start; len = labelAt b k .len })
+labelNameAt t b k = spanned t (record { start = labelRecordAt b k .start; len = labelRecordAt b k .len })
 
 unfoldable pub labelNames : List ℕ → List ℕ → ℕ → ℕ → List (List ℕ)
 labelNames t b k zero = []
