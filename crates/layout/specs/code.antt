@@ -7,3 +7,4 @@ pub mod Writes
 pub mod Tables
 pub mod Fits
 pub mod Stands
+pub mod Lent

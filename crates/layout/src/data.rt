@@ -45,11 +45,10 @@ ghost use Rattle.layout.specs.Limits.{textLimit, dataLimit};
 ghost use Rattle.layout.specs.Directives.{gap, reservation, isLabelStart, isLabelName, widthBytes, readAt, rangeAt, unread};
 ghost use Rattle.layout.specs.Directives.{operandWrite, stringWrite, storeWrites};
 ghost use Rattle.layout.specs.Stage.{writeSize, addLabelWord, dataWrite, dataLine};
-ghost use Rattle.layout.specs.code.Steps.{Some, Steps};
 ghost use Rattle.layout.specs.code.Spans.{SpanWithin, LineIn};
 ghost use Rattle.layout.specs.code.Rows.{FewZeros, reservedOf, ReservedSmall};
 ghost use Rattle.layout.specs.code.Writes.{writeAt, WriteFits, readingAt, ReadingFits, writtenBytes, Sized};
-ghost use Rattle.layout.specs.code.Stands.{LabelWordsStand, dataStore, StoredStand, countOf, dataOf};
+ghost use Rattle.layout.specs.code.Lent.{LabelWordsReady, LabelWordsSteps, DataReady, DataSteps};
 
 // What an operand writes: a number of a width, a part of the text and so many bytes 0, zeros, or the address of a label.
 pub enum Write {
@@ -220,9 +219,9 @@ fn add_label_word(
     at: usize,
     write: Write,
 ) -> Count
-    requires { ⌜ Some (LabelWordsStand (now text) count (now «label_words»)) × LineIn (now text) line
+    requires { ⌜ LabelWordsReady text «label_words» count × LineIn (now text) line
         × WriteFits (now text) write × (at ≤ dataLimit) ⌝ }
-    ensures { λ r. ⌜ Steps (LabelWordsStand (now (text .entry))) count (now («label_words» .entry)) (countOf r) (now («label_words» .exit))
+    ensures { λ r. ⌜ LabelWordsSteps text «label_words» count r
         (addLabelWord line at (writeAt (now (text .entry)) write)) ⌝ }
 {
     let Write::Address(name) = write else {
@@ -251,10 +250,9 @@ fn data_write(
     line: u32,
     write: Write,
 ) -> DataStep
-    requires { ⌜ Some (StoredStand (now text) room st (dataStore (now «data_bytes») (now «label_words»))) × LineIn (now text) line
+    requires { ⌜ DataReady text «data_bytes» «label_words» room st × LineIn (now text) line
         × WriteFits (now text) write ⌝ }
-    ensures { λ r. ⌜ Steps (StoredStand (now (text .entry)) room) st (dataStore (now («data_bytes» .entry)) (now («label_words» .entry)))
-        (dataOf r) (dataStore (now («data_bytes» .exit)) (now («label_words» .exit)))
+    ensures { λ r. ⌜ DataSteps text «data_bytes» «label_words» room st r
         (dataWrite room line (writeAt (now (text .entry)) write)) ⌝ }
 {
     let at = st.bytes;
@@ -282,10 +280,9 @@ fn reading_line(
     line: u32,
     reading: Reading,
 ) -> DataStep
-    requires { ⌜ Some (StoredStand (now text) room st (dataStore (now «data_bytes») (now «label_words»))) × LineIn (now text) line
+    requires { ⌜ DataReady text «data_bytes» «label_words» room st × LineIn (now text) line
         × ReadingFits (now text) reading ⌝ }
-    ensures { λ r. ⌜ Steps (StoredStand (now (text .entry)) room) st (dataStore (now («data_bytes» .entry)) (now («label_words» .entry)))
-        (dataOf r) (dataStore (now («data_bytes» .exit)) (now («label_words» .exit)))
+    ensures { λ r. ⌜ DataSteps text «data_bytes» «label_words» room st r
         (dataLine room line (readingAt (now (text .entry)) reading ∷ [])) ⌝ }
 {
     match reading {
@@ -305,10 +302,9 @@ fn number_line(
     width: Width,
     part: Span,
 ) -> DataStep
-    requires { ⌜ Some (StoredStand (now text) room st (dataStore (now «data_bytes») (now «label_words»))) × LineIn (now text) line
+    requires { ⌜ DataReady text «data_bytes» «label_words» room st × LineIn (now text) line
         × SpanWithin (now text) part ⌝ }
-    ensures { λ r. ⌜ Steps (StoredStand (now (text .entry)) room) st (dataStore (now («data_bytes» .entry)) (now («label_words» .entry)))
-        (dataOf r) (dataStore (now («data_bytes» .exit)) (now («label_words» .exit)))
+    ensures { λ r. ⌜ DataSteps text «data_bytes» «label_words» room st r
         (dataLine room line (storeWrites (Numbers width) (spanned (now (text .entry)) part))) ⌝ }
 {
     let bytes = span_bytes(text, part);
@@ -346,10 +342,9 @@ pub fn store_line(
     what: Store,
     part: Span,
 ) -> DataStep
-    requires { ⌜ Some (StoredStand (now text) room st (dataStore (now «data_bytes») (now «label_words»))) × LineIn (now text) line
+    requires { ⌜ DataReady text «data_bytes» «label_words» room st × LineIn (now text) line
         × SpanWithin (now text) part × FewZeros what ⌝ }
-    ensures { λ r. ⌜ Steps (StoredStand (now (text .entry)) room) st (dataStore (now («data_bytes» .entry)) (now («label_words» .entry)))
-        (dataOf r) (dataStore (now («data_bytes» .exit)) (now («label_words» .exit)))
+    ensures { λ r. ⌜ DataSteps text «data_bytes» «label_words» room st r
         (dataLine room line (storeWrites what (spanned (now (text .entry)) part))) ⌝ }
 {
     match what {
@@ -384,9 +379,8 @@ pub fn reserve_line(
     what: Reserve,
     part: Span,
 ) -> DataStep
-    requires { ⌜ Some (StoredStand (now text) room st (dataStore (now «data_bytes») (now «label_words»))) × LineIn (now text) line ⌝ }
-    ensures { λ r. ⌜ Steps (StoredStand (now (text .entry)) room) st (dataStore (now («data_bytes» .entry)) (now («label_words» .entry)))
-        (dataOf r) (dataStore (now («data_bytes» .exit)) (now («label_words» .exit)))
+    requires { ⌜ DataReady text «data_bytes» «label_words» room st × LineIn (now text) line ⌝ }
+    ensures { λ r. ⌜ DataSteps text «data_bytes» «label_words» room st r
         (dataLine room line (mapped gap (reservation what (immOf (spanned (now (text .entry)) part))) ∷ [])) ⌝ }
 {
     let reading = gap_of(reservation_of(what, span_bytes(text, part)));

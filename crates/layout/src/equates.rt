@@ -9,10 +9,9 @@ use crate::state::Count;
 use crate::state::Place;
 ghost use mathlib.Core.Path.{_≡_};
 ghost use Rattle.layout.specs.Stage.{addEquate};
-ghost use Rattle.layout.specs.code.Steps.{Some, Steps};
 ghost use Rattle.layout.specs.code.Spans.{SpanWithin, LineIn, equateAt};
 ghost use Rattle.layout.specs.code.Places.{PlaceFits};
-ghost use Rattle.layout.specs.code.Stands.{EquatesStand, equateStore, countOf};
+ghost use Rattle.layout.specs.code.Lent.{EquatesReady, EquatesSteps};
 
 // An equate's record and its expression's. The contract alone names the text, which the parts are of.
 pub fn add_equate(
@@ -25,10 +24,9 @@ pub fn add_equate(
     line: u32,
     parts: EquateParts,
 ) -> Count
-    requires { ⌜ Some (EquatesStand (now text) room count (equateStore (now equates) (now exprs))) × PlaceFits place
+    requires { ⌜ EquatesReady text equates exprs room count × PlaceFits place
         × LineIn (now text) line × SpanWithin (now text) (parts .name) × SpanWithin (now text) (parts .expr) ⌝ }
-    ensures { λ r. ⌜ Steps (EquatesStand (now (text .entry)) room) count (equateStore (now (equates .entry)) (now (exprs .entry)))
-        (countOf r) (equateStore (now (equates .exit)) (now (exprs .exit)))
+    ensures { λ r. ⌜ EquatesSteps text equates exprs room count r
         (addEquate room (equateAt (now (text .entry)) place line parts)) ⌝ }
 {
     if room.equates <= count {

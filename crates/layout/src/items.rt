@@ -13,9 +13,8 @@ ghost use Rattle.numbers.specs.code.Spans.{spanned};
 ghost use Rattle.layout.specs.Pseudos.{itemOf};
 ghost use Rattle.layout.specs.Stage.{addItem, textLine};
 ghost use Rattle.layout.specs.code.Kinds.{PseudoNames, kindItem, kindSource};
-ghost use Rattle.layout.specs.code.Steps.{Some, Steps};
 ghost use Rattle.layout.specs.code.Spans.{SpanWithin, LineIn, pieceAt};
-ghost use Rattle.layout.specs.code.Stands.{ItemsStand, itemsOf};
+ghost use Rattle.layout.specs.code.Lent.{ItemsReady, ItemsSteps};
 
 // An item's record is written, and its words are reserved.
 fn add_item(
@@ -26,8 +25,8 @@ fn add_item(
     line: u32,
     kind: LineKind,
 ) -> ItemStep
-    requires { ⌜ Some (ItemsStand (now text) room st (now items)) × LineIn (now text) line × SpanWithin (now text) (kindSource kind) ⌝ }
-    ensures { λ r. ⌜ Steps (ItemsStand (now (text .entry)) room) st (now (items .entry)) (itemsOf r) (now (items .exit))
+    requires { ⌜ ItemsReady text items room st × LineIn (now text) line × SpanWithin (now text) (kindSource kind) ⌝ }
+    ensures { λ r. ⌜ ItemsSteps text items room st r
         (addItem room line (kindItem kind) (pieceAt (now (text .entry)) (kindSource kind))) ⌝ }
 {
     let count = st.items;
@@ -64,9 +63,9 @@ pub fn text_line(
     line: u32,
     source: Span,
 ) -> ItemStep
-    requires { ⌜ Some (ItemsStand (now text) room st (now items)) × LineIn (now text) line × SpanWithin (now text) source
+    requires { ⌜ ItemsReady text items room st × LineIn (now text) line × SpanWithin (now text) source
         × PseudoNames (now names) ⌝ }
-    ensures { λ r. ⌜ Steps (ItemsStand (now (text .entry)) room) st (now (items .entry)) (itemsOf r) (now (items .exit))
+    ensures { λ r. ⌜ ItemsSteps text items room st r
         (textLine room line (pieceAt (now (text .entry)) source) (itemOf (spanned (now (text .entry)) source))) ⌝ }
 {
     match kind_of(names, text, source) {

@@ -15,11 +15,10 @@ ghost use lib.ListN.{length};
 ghost use Rattle.numbers.specs.Text.{same};
 ghost use Rattle.layout.specs.Limits.{labelSize};
 ghost use Rattle.layout.specs.Stage.{addLabel, labelStep};
-ghost use Rattle.layout.specs.code.Steps.{Some, Steps};
 ghost use Rattle.layout.specs.code.Spans.{SpanWithin, LabelWithin, LineIn, pieceAt, labelPartAt};
 ghost use Rattle.layout.specs.code.Places.{PlaceFits};
 ghost use Rattle.layout.specs.code.Tables.{labelNameAt, labelNames, lookupIn, lookupOf, LookupBelow};
-ghost use Rattle.layout.specs.code.Stands.{LabelsStand, countOf};
+ghost use Rattle.layout.specs.code.Lent.{LabelsReady, LabelsSteps};
 
 // Where a label's record stands among the others, or nowhere.
 pub enum Lookup {
@@ -66,9 +65,9 @@ fn add_label(
     line: u32,
     name: Span,
 ) -> Count
-    requires { ⌜ Some (LabelsStand (now text) room count (now labels)) × PlaceFits place × LineIn (now text) line
+    requires { ⌜ LabelsReady text labels room count × PlaceFits place × LineIn (now text) line
         × SpanWithin (now text) name ⌝ }
-    ensures { λ r. ⌜ Steps (LabelsStand (now (text .entry)) room) count (now (labels .entry)) (countOf r) (now (labels .exit))
+    ensures { λ r. ⌜ LabelsSteps text labels room count r
         (addLabel room (record { name = pieceAt (now (text .entry)) name; place = place; line = line })) ⌝ }
 {
     let label = LabelRecord {
@@ -102,9 +101,9 @@ pub fn label_step(
     line: u32,
     label: LabelPart,
 ) -> Count
-    requires { ⌜ Some (LabelsStand (now text) room count (now labels)) × PlaceFits place × LineIn (now text) line
+    requires { ⌜ LabelsReady text labels room count × PlaceFits place × LineIn (now text) line
         × LabelWithin (now text) label ⌝ }
-    ensures { λ r. ⌜ Steps (LabelsStand (now (text .entry)) room) count (now (labels .entry)) (countOf r) (now (labels .exit))
+    ensures { λ r. ⌜ LabelsSteps text labels room count r
         (labelStep room place line (labelPartAt (now (text .entry)) label)) ⌝ }
 {
     match label {

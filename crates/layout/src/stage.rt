@@ -32,10 +32,8 @@ ghost use Rattle.layout.specs.State.{start};
 ghost use Rattle.layout.specs.Stage.{ownLine, says, stepLine, lineStage};
 ghost use Rattle.layout.specs.code.Kinds.{PseudoNames};
 ghost use Rattle.layout.specs.code.Rows.{DirectiveNames};
-ghost use Rattle.layout.specs.code.Steps.{Some, Steps};
 ghost use Rattle.layout.specs.code.Spans.{lineAt, ownAt, statementAt, OwnWithin, StatementWithin, LineIn};
-ghost use Rattle.layout.specs.code.Stands.{ownStore, OwnStand, restStore, RestStand, store, Stands};
-ghost use Rattle.layout.specs.code.Stands.{ownOf, restOf, stepOf, startCounters, StageAgrees};
+ghost use Rattle.layout.specs.code.Lent.{OwnReady, OwnSteps, RestReady, RestSteps, StageReady, StageSteps, StageStarts, StageGives};
 
 // What the stage comes to: where the layout is at the end, or a refusal's number and line.
 pub enum Stage {
@@ -55,11 +53,9 @@ fn own_line(
     line: u32,
     statement: OwnStatement,
 ) -> OwnStep
-    requires { ⌜ Some (OwnStand (now text) room st (ownStore (now items) (now «data_bytes») (now «label_words»))) × LineIn (now text) line
+    requires { ⌜ OwnReady text items «data_bytes» «label_words» room st × LineIn (now text) line
         × OwnWithin (now text) statement × PseudoNames (now pseudos) ⌝ }
-    ensures { λ r. ⌜ Steps (OwnStand (now (text .entry)) room) st
-        (ownStore (now (items .entry)) (now («data_bytes» .entry)) (now («label_words» .entry)))
-        (ownOf r) (ownStore (now (items .exit)) (now («data_bytes» .exit)) (now («label_words» .exit)))
+    ensures { λ r. ⌜ OwnSteps text items «data_bytes» «label_words» room st r
         (ownLine room line (ownAt (now (text .entry)) statement)) ⌝ }
 {
     let section = st.section;
@@ -150,15 +146,9 @@ fn says(
     line: u32,
     statement: Statement,
 ) -> RestStep
-    requires { ⌜ Some (RestStand (now text) room st
-        (restStore (now equates) (now exprs) (now items) (now «data_bytes») (now «label_words»)))
+    requires { ⌜ RestReady text equates exprs items «data_bytes» «label_words» room st
         × LineIn (now text) line × StatementWithin (now text) statement × PseudoNames (now pseudos) ⌝ }
-    ensures { λ r. ⌜ Steps (RestStand (now (text .entry)) room) st
-        (restStore (now (equates .entry)) (now (exprs .entry)) (now (items .entry)) (now («data_bytes» .entry))
-        (now («label_words» .entry)))
-        (restOf r)
-        (restStore (now (equates .exit)) (now (exprs .exit)) (now (items .exit)) (now («data_bytes» .exit))
-        (now («label_words» .exit)))
+    ensures { λ r. ⌜ RestSteps text equates exprs items «data_bytes» «label_words» room st r
         (λ σ. andThen (statementAt (now (text .entry)) statement) (λ s. says room line s σ)) ⌝ }
 {
     let count = st.equates;
@@ -213,16 +203,10 @@ fn step_line(
     st: Counters,
     line: u32,
 ) -> Step
-    requires { ⌜ Some (Stands (now text) room st
-        (store (now labels) (now equates) (now exprs) (now items) (now «data_bytes») (now «label_words»)))
+    requires { ⌜ StageReady text labels equates exprs items «data_bytes» «label_words» room st
         × LineIn (now text) line × (at ≤ end) × (end ≤ length (now text))
         × DirectiveNames (now directives) × PseudoNames (now pseudos) ⌝ }
-    ensures { λ r. ⌜ Steps (Stands (now (text .entry)) room) st
-        (store (now (labels .entry)) (now (equates .entry)) (now (exprs .entry)) (now (items .entry)) (now («data_bytes» .entry))
-        (now («label_words» .entry)))
-        (stepOf r)
-        (store (now (labels .exit)) (now (equates .exit)) (now (exprs .exit)) (now (items .exit)) (now («data_bytes» .exit))
-        (now («label_words» .exit)))
+    ensures { λ r. ⌜ StageSteps text labels equates exprs items «data_bytes» «label_words» room st r
         (stepLine room line (lineAt (now (text .entry)) at end)) ⌝ }
 {
     let rest = st.rest;
@@ -266,12 +250,9 @@ pub fn line_stage(
     label_words: &mut [u8],
     room: Room,
 ) -> Stage
-    requires { ⌜ (length (now text) ≤ textLimit) × Stands (now text) room startCounters
-        (store (now labels) (now equates) (now exprs) (now items) (now «data_bytes») (now «label_words»)) start ⌝ }
-    ensures { λ r. ⌜ StageAgrees (now (text .entry)) room
-        (store (now (labels .exit)) (now (equates .exit)) (now (exprs .exit)) (now (items .exit)) (now («data_bytes» .exit))
-        (now («label_words» .exit)))
-        r (lineStage room 0 (linePieces 0 (lines (now (text .entry)))) start) ⌝ }
+    requires { ⌜ (length (now text) ≤ textLimit) × StageStarts text labels equates exprs items «data_bytes» «label_words» room ⌝ }
+    ensures { λ r. ⌜ StageGives text labels equates exprs items «data_bytes» «label_words» room r
+        (lineStage room 0 (linePieces 0 (lines (now (text .entry)))) start) ⌝ }
 {
     let directives = directives::NAMES;
     let pseudos = pseudo::NAMES;
