@@ -1,21 +1,17 @@
--- The data: what a write takes and puts, the one place where they grow, and a directive's operands one after the other.
+-- The data: what a write takes and puts, and the one place where they grow.
 use Prim.Native.Nat.{ℕ, _+_, _-_, _*_, _≤_, _<_}
 use native.Mathlib.Omega.{arith}
 use mathlib.Core.Path.{_≡_, refl, sym, ap, _∙_}
-use mathlib.Core.List.{List, [], _∷_, _++_, map, map-append}
+use mathlib.Core.List.{List, [], _∷_, _++_, map-append}
 use lib.ListN.{length, take, drop, replicate, length-append, length-drop, length-replicate, length-map}
 use lib.IntN.{ℤ}
 use types.Run.{OneOf, miss}
 use denote.Enum.Declared.{tagOf}
 use borrow.Author.Tests.{le-leb, lt-leb, lt-ltb, le-ltb}
-use Rattle.numbers.specs.Results.{Result, value, refused, andThen, mapped}
+use Rattle.numbers.specs.Results.{Result, value, refused, mapped}
 use Rattle.numbers.specs.Ints.{bits}
 use Rattle.numbers.specs.declared.text.Span.{Span}
 use Rattle.numbers.specs.code.Spans.{spanned}
-use Rattle.numbers.specs.declared.operands.Operand.the-variants.{At, End}
-use Rattle.numbers.specs.Operands.{operands}
-use Rattle.numbers.specs.code.Cursors.{operandAt, operandsFrom}
-use Rattle.numbers.proofs.Parts.{operand-step, operand-end, operands-all, operand-bounds}
 use Rattle.layout.specs.declared.limits.Room.{Room}
 use Rattle.layout.specs.declared.directives.Width.{Width}
 use Rattle.layout.specs.declared.directives.Width.the-variants.{Byte, Half, Word, Dword}
@@ -29,15 +25,15 @@ use Rattle.layout.specs.Bytes.{le, put, padded}
 use Rattle.layout.specs.Limits.{textLimit, labelWordLimit}
 use Rattle.layout.specs.Records.{fieldBytes}
 use Rattle.layout.specs.State.{LabelWord, Stored}
-use Rattle.layout.specs.Directives.{widthBytes, placeAfter, operandWrite}
+use Rattle.layout.specs.Directives.{widthBytes, placeAfter}
 use Rattle.layout.specs.Directives as directive
-use Rattle.layout.specs.Stage.{writeSize, writeBytes, growData, addLabelWord, dataWrite, dataLine}
+use Rattle.layout.specs.Stage.{writeSize, writeBytes, growData, addLabelWord, dataWrite}
 use Rattle.layout.specs.code.Spans.{SpanWithin}
 use Rattle.layout.specs.code.Rows.{Small}
 use Rattle.layout.specs.code.Tables.{labelWordSize, labelWordFields}
 use Rattle.layout.specs.code.Writes.{writeAt, WriteFits, writtenBytes, Sized}
-use Rattle.layout.specs.code.Steps.{Some, Agrees, Steps}
-use Rattle.layout.specs.code.Stands.{labelWordOf, LabelWordsStand, DataStore, StoredStand, dataStore}
+use Rattle.layout.specs.code.Steps.{Agrees, Steps}
+use Rattle.layout.specs.code.Stands.{labelWordOf, LabelWordsStand, StoredStand, dataStore}
 use Rattle.layout.specs.code.Fits.{StoredFits}
 use Rattle.layout.proofs.data.Write.{the-type}
 use Rattle.layout.proofs.Each.{each-append}
@@ -45,7 +41,7 @@ use Rattle.layout.proofs.Gives.{Gives}
 use Rattle.layout.proofs.Kept.{write-length, data-write-fits}
 use Rattle.layout.proofs.ByteLaws.{put-lent, put-put, put-pad, length-put, length-mid, length-le}
 use Rattle.layout.proofs.TableLaws.{table-more}
-use Rattle.layout.proofs.SpanLaws.{spanned-size, part-back}
+use Rattle.layout.proofs.SpanLaws.{spanned-size}
 use Rattle.layout.proofs.ReservationLaws.{aligned-bounds}
 
 -- ---- how much a write takes
@@ -197,7 +193,7 @@ module _ (k : Room) (line : ℕ) (w : directive.Write) (σ : Stored) (p : ℕ) (
   data-grows h = rw (dataWrite, growData, le-leb (length (σ .bytes) + writeSize (length (σ .bytes)) w) (k .bytes) (rw e at h), e) refl
 
 -- steps of the data: m are the buffer's bytes, l the label words' records
-abbrev DataSteps : List ℕ → Room → DataCount → List ℕ → List ℕ → Result ℕ DataCount → List ℕ → List ℕ → (Stored → Result ℕ Stored) → Type 0
+abbrev pub DataSteps : List ℕ → Room → DataCount → List ℕ → List ℕ → Result ℕ DataCount → List ℕ → List ℕ → (Stored → Result ℕ Stored) → Type 0
 DataSteps t k c m l r m′ l′ f = Steps (StoredStand t k) c (dataStore m l) r (dataStore m′ l′) f
 
 module _ (t : List ℕ) (k : Room) (c : DataCount) (m l : List ℕ) (line : ℕ) (x : Write) (n : ℕ)
@@ -262,111 +258,3 @@ module _ (t : List ℕ) (k : Room) (c : DataCount) (m l : List ℕ) (line : ℕ)
               labelWords = g;
             }
         by (refused q) g f = absurd g
-
--- ---- a directive's operands one after the other
-
-module _ (k : Room) (line : ℕ) where
-  -- one operand, then the others
-  line-split : (r : Result ℕ directive.Write) (rs : List (Result ℕ directive.Write)) (σ : Stored)
-      → dataLine k line (r ∷ rs) σ ≡ andThen (dataLine k line (r ∷ []) σ) (dataLine k line rs)
-  unfolding dataLine
-  line-split (refused n) rs σ = refl
-  line-split (value w) rs σ = by (dataWrite k line w σ)
-    where
-      by : (m : Result ℕ Stored) → andThen m (dataLine k line rs) ≡ andThen (andThen m (dataLine k line [])) (dataLine k line rs)
-      by (value τ) = refl
-      by (refused n) = refl
-
-  one-write : (w : directive.Write) (σ : Stored) → dataLine k line (value w ∷ []) σ ≡ dataWrite k line w σ
-  unfolding dataLine
-  one-write w σ = by (dataWrite k line w σ)
-    where
-      by : (m : Result ℕ Stored) → andThen m (dataLine k line []) ≡ m
-      by (value τ) = refl
-      by (refused n) = refl
-
-  -- an operand alone: it is refused, or it is written
-  pub line-stops : (r : Result ℕ directive.Write) (n : ℕ) (σ : Stored) → r ≡ refused n → dataLine k line (r ∷ []) σ ≡ refused n
-  unfolding dataLine
-  line-stops r n σ e = rw e refl
-
-  pub line-goes : (r : Result ℕ directive.Write) (w : directive.Write) (σ : Stored) → r ≡ value w
-      → dataLine k line (r ∷ []) σ ≡ dataWrite k line w σ
-  line-goes r w σ e = rw e (one-write w σ)
-
--- a state from which the operands from a place on come to the whole
-pub record Left (t : List ℕ) (k : Room) (line : ℕ) (w : Width) (s : List ℕ) (whole : Result ℕ Stored) (c : DataCount)
-    (b : DataStore) (at : ℕ) : Type 0 where
-  pub state : Stored
-  pub stands : StoredStand t k c b state
-  pub goes : dataLine k line (map (operandWrite w) (operandsFrom s at)) state ≡ whole
-
--- what the loop over them keeps
-pub record Numbering (t : List ℕ) (k : Room) (line : ℕ) (w : Width) (s : List ℕ) (c₀ : DataCount) (m₀ l₀ : List ℕ)
-    (c : DataCount) (m l : List ℕ) (at : ℕ) : Type 0 where
-  pub same-bytes : length m ≡ length m₀
-  pub same-words : length l ≡ length l₀
-  pub first : Some (StoredStand t k c₀ (dataStore m₀ l₀))
-  pub left : (σ : Stored) → StoredStand t k c₀ (dataStore m₀ l₀) σ
-      → Left t k line w s (dataLine k line (map (operandWrite w) (operands s)) σ) c (dataStore m l) at
-
-module _ (t : List ℕ) (k : Room) (line : ℕ) (w : Width) (s : List ℕ) (c₀ : DataCount) (m₀ l₀ : List ℕ) where
-  pub numbering-first : Some (StoredStand t k c₀ (dataStore m₀ l₀)) → Numbering t k line w s c₀ m₀ l₀ c₀ m₀ l₀ 0
-  numbering-first f =
-      record { same-bytes = refl; same-words = refl; first = f; left = λ σ g. record { state = σ; stands = g; goes = rw (operands-all s) refl } }
-
-  module _ (c : DataCount) (m l : List ℕ) (at : ℕ) (g : Numbering t k line w s c₀ m₀ l₀ c m l at) where
-    -- there is something that the present counters and buffers stand for
-    pub numbering-some : Some (StoredStand t k c (dataStore m l))
-    numbering-some = let h = g .left (g .first .it) (g .first .stands) in record { it = h .state; stands = h .stands }
-
-    -- no operand is left
-    pub numbering-ends : (part : List ℕ) → s ≡ part → operandAt s at ≡ End
-        → DataSteps t k c₀ m₀ l₀ (value c) m l (dataLine k line (map (operandWrite w) (operands part)))
-    unfolding dataLine
-    numbering-ends part d e σ i = let h = g .left σ i in rw (← d, ← h .goes, operand-end s at e) (h .stands)
-
-    module _ (p : Span) (next : ℕ) (e : operandAt s at ≡ At p next) (r : Result ℕ directive.Write) (is : r ≡ operandWrite w (spanned s p))
-        (m′ l′ : List ℕ) (o : Result ℕ DataCount) (h : DataSteps t k c m l o m′ l′ (dataLine k line (r ∷ []))) where
-      after : (σ : Stored) (i : StoredStand t k c₀ (dataStore m₀ l₀) σ)
-          → andThen (dataLine k line (r ∷ []) (g .left σ i .state)) (dataLine k line (map (operandWrite w) (operandsFrom s next)))
-          ≡ dataLine k line (map (operandWrite w) (operands s)) σ
-      after σ i = sym (line-split k line r _ _) ∙ rw (operand-step s at p next e, ← is) at (g .left σ i .goes)
-
-      -- the operand is refused
-      pub numbering-stops : (part : List ℕ) → s ≡ part → (n : ℕ) → o ≡ refused n
-          → DataSteps t k c₀ m₀ l₀ (refused n) m′ l′ (dataLine k line (map (operandWrite w) (operands part)))
-      numbering-stops part d n q σ i =
-          rw (← d, ← after σ i) (by (dataLine k line (r ∷ []) (g .left σ i .state)) (rw q at (h (g .left σ i .state) (g .left σ i .stands))))
-        where
-          by : (a : Result ℕ Stored) → Agrees (λ d. StoredStand t k d (dataStore m′ l′)) (refused n) a
-              → Agrees (λ d. StoredStand t k d (dataStore m′ l′)) (refused n)
-              (andThen a (dataLine k line (map (operandWrite w) (operandsFrom s next))))
-          by (value τ) a = absurd a
-          by (refused n) a = a
-
-      -- or the others are left
-      pub numbering-goes : (c′ : DataCount) → o ≡ value c′ → length m′ ≡ length m → length l′ ≡ length l
-          → Numbering t k line w s c₀ m₀ l₀ c′ m′ l′ next
-      numbering-goes c′ q same-m same-l =
-          record {
-            same-bytes = same-m ∙ g .same-bytes;
-            same-words = same-l ∙ g .same-words;
-            first = g .first;
-            left = λ σ i.
-                by (dataLine k line (r ∷ []) (g .left σ i .state)) _ (rw q at (h (g .left σ i .state) (g .left σ i .stands))) (after σ i);
-          }
-        where
-          by : (a whole : Result ℕ Stored) → Agrees (λ d. StoredStand t k d (dataStore m′ l′)) (value c′) a
-              → andThen a (dataLine k line (map (operandWrite w) (operandsFrom s next))) ≡ whole → Left t k line w s whole c′ (dataStore m′ l′) next
-          by (value τ) whole a q = record { state = τ; stands = a; goes = q }
-          by (refused n) whole a q = absurd a
-
--- an operand of a part, by its place in the text
-module _ (t : List ℕ) (q : Span) (s : List ℕ) (at : ℕ) (p : Span) (next : ℕ) (d : s ≡ spanned t q) (e : operandAt s at ≡ At p next) where
-  pub operand-back : spanned t (record { start = q .start + p .start; len = p .len }) ≡ spanned s p
-  unfolding spanned
-  operand-back = rw d (part-back t q (p .start) (p .len) (rw d at (operand-bounds s at p next e .0)))
-
-  pub operand-within : SpanWithin t q → SpanWithin t (record { start = q .start + p .start; len = p .len })
-  operand-within h = omega (arith, h, operand-bounds s at p next e .0, ap length d ∙ spanned-size t q)

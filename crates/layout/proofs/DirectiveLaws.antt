@@ -1,29 +1,30 @@
 -- The table of directives, in the code's columns, against the definition's rows: for any table.
-use Prim.Native.Nat.{ℕ, zero, suc, min, _≤_, _<_}
+use Prim.Native.Nat.{ℕ, zero, suc, min, _+_, _*_, _≤_, _<_}
 use native.Mathlib.Omega.{arith}
-use mathlib.Core.Path.{_≡_, refl, sym, ap, _∙_}
+use mathlib.Core.Path.{_≡_, refl, sym, ap, subst, _∙_}
 use mathlib.Core.List.{List, [], _∷_, map}
 use mathlib.Core.Bool.{Bool, true, false, cond, not, _&&_, false≢true}
 use mathlib.Core.Option.{none, some}
-use lib.Dec.{eqb}
+use lib.Dec.{eqb, ltb}
 use lib.ListN.{length, getD, length-map, List·getD-map}
 use mir.Syntax.{w64}
 use mir.Val.{Fits}
-use borrow.Author.Tests.{eqb-true}
+use borrow.Author.Tests.{eqb-true, ltb-true, ltb-false}
 use Rattle.numbers.specs.Text.{text, startsWith}
-use Rattle.numbers.specs.code.Tables.{prefixIn}
+use Rattle.numbers.specs.code.Tables.{rows, prefixIn}
 use Rattle.numbers.proofs.Bools.{and-left, and-right}
 use Rattle.numbers.proofs.Prefixes.{prefix-length, longer-prefix}
-use Rattle.numbers.proofs.Rows.{prefix-found}
+use Rattle.numbers.proofs.Rows.{prefix-found, column-of}
 use Rattle.layout.specs.declared.directives.Width.the-variants.{Byte, Half, Word, Dword}
 use Rattle.layout.specs.declared.directives.Reserve.the-variants.{Space, Align}
 use Rattle.layout.specs.declared.directives.Store.the-variants.{Numbers, Text, Float}
 use Rattle.layout.specs.declared.directives.Directive.{Directive}
 use Rattle.layout.specs.declared.directives.Directive.the-variants.{Symbol, Ignored, Equate, Reserves, Stores}
 use Rattle.layout.specs.declared.directives.Spelling.{Spelling}
+use Rattle.layout.specs.declared.directives.Spelled.{Spelled}
 use Rattle.layout.specs.declared.directives.Spelled.the-variants as spelled
 use Rattle.layout.specs.Directives.{Row, directives, rowIn}
-use Rattle.layout.specs.code.Rows.{directiveNumber, rowCode, DirectiveFits, SpelledWithin}
+use Rattle.layout.specs.code.Rows.{directiveNumber, DirectiveTable, rowCode, DirectiveFits, SpelledWithin}
 
 -- ---- numbers
 
@@ -77,18 +78,8 @@ number-fits (Stores (Text (suc (suc z)))) h = absurd (omega arith)
 
 -- ---- rows
 
-abbrev pub names : List Row → List (List ℕ)
+abbrev names : List Row → List (List ℕ)
 names rs = map (λ r. r .name) rs
-
--- the columns that the code has beside the names
-abbrev pub lengthColumn : List Row → List ℕ
-lengthColumn rs = map (λ r. length (r .name)) rs
-
-abbrev pub kindColumn : List Row → List ℕ
-kindColumn rs = map (λ r. directiveNumber (r .directive)) rs
-
-abbrev pub dataColumn : List Row → List ℕ
-dataColumn rs = map (λ r. cond (r .inData) 1 0) rs
 
 abbrev noRow : Row
 noRow = record { name = []; directive = Symbol; inData = false }
@@ -118,44 +109,75 @@ flag-back : (b : Bool) → not (eqb (cond b 1 0) 0) ≡ b
 flag-back true = refl
 flag-back false = refl
 
--- the row that the code finds: none, or one whose columns say what it is
-module _ (rs : List Row) (s : List ℕ) (i : ℕ) (at : i ≡ prefixIn (names rs) s) where
-  pub row-past : length rs ≤ i → (spelled.Nothing ≡ rowCode (rowIn rs s)) × SpelledWithin spelled.Nothing (length s)
-  row-past h = (rw (row-none rs s (rw at at h)) refl, tt)
+-- every number is one that `directive_numbered` tells apart
+abbrev Numbered : List Row → Type 0
+Numbered rs = map (λ r. min (directiveNumber (r .directive)) 11) rs ≡ map (λ r. directiveNumber (r .directive)) rs
 
-  module _ (h : i < length rs) (small : map (λ k. min k 11) (kindColumn rs) ≡ kindColumn rs) (d : Directive) (is : directiveNumber d ≡ min (getD (kindColumn rs) i 0) 11) where
+pub directives-numbered : Numbered directives
+unfolding directives
+directives-numbered = refl
+
+number-small : (rs : List Row) (i : ℕ) → Numbered rs → min (directiveNumber (getD rs i noRow .directive)) 11 ≡ directiveNumber (getD rs i noRow .directive)
+number-small rs i small =
+    sym (List·getD-map (λ (r : Row). min (directiveNumber (r .directive)) 11) rs i noRow) ∙ ap (λ (l : List ℕ). getD l i 0) small
+    ∙ List·getD-map (λ (r : Row). directiveNumber (r .directive)) rs i noRow
+
+-- a spelling that is found stands at the statement's start
+pub row-within : (rs : List Row) (s : List ℕ) → Numbered rs → SpelledWithin (rowCode (rowIn rs s)) (length s)
+row-within rs s small = go (ltb place (length rs)) refl
+  where
+    place : ℕ
+    place = prefixIn (names rs) s
+
+    begins : place < length rs → startsWith (getD rs place noRow .name) s ≡ true
+    begins h = rw (← List·getD-map (λ (r : Row). r .name) rs place noRow) (prefix-found (names rs) s (rw (length-map rs (λ (r : Row). r .name)) h))
+
+    go : (t : Bool) → ltb place (length rs) ≡ t → SpelledWithin (rowCode (rowIn rs s)) (length s)
+    go true e =
+        let h = ltb-true place (length rs) e in
+        rw (row-some rs s h)
+        (prefix-length (getD rs place noRow .name) s (begins h), number-fits (getD rs place noRow .directive) (omega (arith, number-small rs place small)))
+    go false e = rw (row-none rs s (ltb-false place (length rs) e)) tt
+
+-- the row that the code finds: none, or one whose columns say what it is
+module _ (rs : List Row) (t s : List ℕ) (table : DirectiveTable rs t) (small : Numbered rs) (i : ℕ) (at : i ≡ prefixIn (rows (length rs) t) s) where
+  placed : i ≡ prefixIn (names rs) s
+  placed = rw (table .names) at at
+
+  -- what the statement's row is, is within the statement
+  within : (r : Spelled) → r ≡ rowCode (rowIn rs s) → (r ≡ rowCode (rowIn rs s)) × SpelledWithin r (length s)
+  within r e = (e, subst (λ (x : Spelled). SpelledWithin x (length s)) (sym e) (row-within rs s small))
+
+  pub row-past : length rs ≤ i → (spelled.Nothing ≡ rowCode (rowIn rs s)) × SpelledWithin spelled.Nothing (length s)
+  row-past h = within spelled.Nothing (rw (row-none rs s (rw placed at h)) refl)
+
+  module _ (h : i < length rs) (d : Directive) (is : directiveNumber d ≡ min (getD t (i * 16 + 14) 0) 11) where
     abbrev found : Row
     found = getD rs i noRow
 
     abbrev answer : Spelling
-    answer = record { directive = d; len = getD (lengthColumn rs) i 0; «in_data» = not (eqb (getD (dataColumn rs) i 0) 0) }
+    answer = record { directive = d; len = getD t (i * 16 + 13) 0; «in_data» = not (eqb (getD t (i * 16 + 15) 0) 0) }
 
     directive-back : d ≡ found .directive
     directive-back =
         number-tells d (found .directive)
-        (is ∙ sym (List·getD-map (λ (k : ℕ). min k 11) (kindColumn rs) i 0) ∙ ap (λ (l : List ℕ). getD l i 0) small
-        ∙ List·getD-map (λ (r : Row). directiveNumber (r .directive)) rs i noRow)
+        (is ∙ ap (λ (k : ℕ). min k 11) (column-of (λ (r : Row). directiveNumber (r .directive)) rs noRow 14 i t (table .kinds) h) ∙ number-small rs i small)
         (omega (arith, is))
 
-    length-back : getD (lengthColumn rs) i 0 ≡ length (found .name)
-    length-back = List·getD-map (λ (r : Row). length (r .name)) rs i noRow
+    length-back : getD t (i * 16 + 13) 0 ≡ length (found .name)
+    length-back = column-of (λ (r : Row). length (r .name)) rs noRow 13 i t (table .lengths) h
 
-    data-back : not (eqb (getD (dataColumn rs) i 0) 0) ≡ found .inData
-    data-back = ap (λ (k : ℕ). not (eqb k 0)) (List·getD-map (λ (r : Row). cond (r .inData) 1 0) rs i noRow) ∙ flag-back (found .inData)
-
-    name-begins : startsWith (found .name) s ≡ true
-    name-begins =
-        rw (← List·getD-map (λ (r : Row). r .name) rs i noRow, at)
-        (prefix-found (names rs) s (rw (length-map rs (λ (r : Row). r .name), ← at) h))
+    data-back : not (eqb (getD t (i * 16 + 15) 0) 0) ≡ found .inData
+    data-back = ap (λ (k : ℕ). not (eqb k 0)) (column-of (λ (r : Row). cond (r .inData) 1 0) rs noRow 15 i t (table .dataHas) h) ∙ flag-back (found .inData)
 
     pub row-here : (spelled.As answer ≡ rowCode (rowIn rs s)) × SpelledWithin (spelled.As answer) (length s)
     row-here =
-        let row : rowIn rs s ≡ some found = rw at (row-some rs s (rw at at h)) in
+        let row : rowIn rs s ≡ some found = rw placed (row-some rs s (rw placed at h)) in
         let same : rowCode (some found) ≡ spelled.As answer = rw (directive-back, length-back, data-back) refl in
-        (sym (ap rowCode row ∙ same), (rw length-back (prefix-length (found .name) s name-begins), number-fits d (omega (arith, is))))
+        within (spelled.As answer) (sym (ap rowCode row ∙ same))
 
     -- the length of the row's name
-    pub length-fits : Fits w64 (length s) → Fits w64 (getD (lengthColumn rs) i 0)
+    pub length-fits : Fits w64 (length s) → Fits w64 (getD t (i * 16 + 13) 0)
     length-fits f = record { fits = omega (arith, row-here .1 .0, f .fits) }
 
 -- ---- statements without a dot

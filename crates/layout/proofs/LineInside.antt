@@ -4,13 +4,11 @@ use mathlib.Core.Path.{_≡_, refl}
 use mathlib.Core.List.{List, [], _∷_}
 use mathlib.Core.Bool.{Bool, true, false, cond, not, _&&_, _||_}
 use mathlib.Core.Option.{Option, none, some}
-use native.Mathlib.Omega.{arith}
 use lib.Dec.{eqb}
 use lib.ListN.{length, take}
 use Rattle.numbers.specs.Results.{Result}
 use Rattle.numbers.specs.Text.{text, byte, isSpace, trimmed, startsWith, same}
 use Rattle.numbers.proofs.Bools.{and-left, and-right}
-use Rattle.numbers.proofs.Prefixes.{prefix-length}
 use Rattle.layout.specs.declared.state.Section.{Section}
 use Rattle.layout.specs.declared.state.Section.the-variants as section
 use Rattle.layout.specs.declared.directives.Reserve.{Reserve}
@@ -25,8 +23,9 @@ use Rattle.layout.specs.Statements.{Statement, nothing, enters, equate, 
 use Rattle.layout.specs.Statements.{sectionLine, symbolAfter, equateOf, equOf, otherIn, assignmentOf, reservesIn, storesIn, directiveIn}
 use Rattle.layout.specs.Statements.{onRow, unlabelledOf, Line, labelled, parsed, lineOf}
 use Rattle.layout.specs.code.Rows.{FewZeros, DirectiveFits, rowCode, SpelledWithin}
-use Rattle.layout.specs.code.Fits.{Each, Inside}
-use Rattle.layout.proofs.Each.{_and_, cond-has}
+use Rattle.layout.specs.code.Fits.{Inside}
+use Rattle.layout.proofs.DirectiveLaws.{directives-numbered, row-within}
+use Rattle.layout.proofs.Each.{cond-has}
 use Rattle.layout.proofs.Gives.{Gives}
 use Rattle.layout.proofs.SpanLaws.{count-within}
 use Rattle.layout.proofs.Inside.{trim-inside, from-inside, first-inside, before-inside, after-inside, statement-inside}
@@ -53,29 +52,6 @@ StatementInside t (own s) = OwnInside t s
 pub record LineInside (t : List ℕ) (l : Line) : Type 0 where
   pub label : LabelInside t (l .label)
   pub says : Gives (StatementInside t) (l .says)
-
--- ---- directives
-
--- a spelling that is found stands at the statement's start, and is one of those that were looked through
-row-within : (rs : List Row) (s : List ℕ) → Each (λ r. DirectiveFits (r .directive)) rs → SpelledWithin (rowCode (rowIn rs s)) (length s)
-unfolding rowIn
-row-within [] s g = tt
-row-within (r ∷ rs) s g = by (startsWith (r .name) s) refl (row-within rs s (g .1))
-  where
-    by : (c : Bool) → startsWith (r .name) s ≡ c → SpelledWithin (rowCode (rowIn rs s)) (length s)
-        → SpelledWithin (rowCode (cond c (some r) (rowIn rs s))) (length s)
-    by true h more = (prefix-length (r .name) s h, g .0)
-    by false h more = more
-
-few-zeros : Each (λ r. DirectiveFits (r .directive)) directives
-unfolding directives
-few-zeros =
-    tt and tt and tt and tt and tt and tt and tt and tt and tt and tt and tt and tt and tt and tt and tt and tt and tt and tt and tt and tt
-    and omega arith and omega arith and omega arith and tt
-
--- of the table's spellings
-pub spelling-within : (s : List ℕ) → SpelledWithin (rowCode (rowIn directives s)) (length s)
-spelling-within s = row-within directives s few-zeros
 
 -- ---- statements
 
@@ -175,7 +151,7 @@ module _ (t : List ℕ) where
 
   pub unlabelled-inside : (s : Section) (p : Piece) → Inside t p → SaysInside (unlabelledOf s p)
   unfolding unlabelledOf
-  unlabelled-inside s p g = either (isEmpty p) _ _ tt (row-inside (rowIn directives (p .bytes)) s p (spelling-within (p .bytes)) g)
+  unlabelled-inside s p g = either (isEmpty p) _ _ tt (row-inside (rowIn directives (p .bytes)) s p (row-within directives (p .bytes) directives-numbered) g)
 
   -- ---- lines
 

@@ -1,5 +1,5 @@
 -- Pseudo-instructions: a line's item by its first word's place in the table of spellings, for any table; and an li's words.
-use Prim.Native.Nat.{ℕ, zero, suc, min, _≤_, _<_}
+use Prim.Native.Nat.{ℕ, zero, suc, min, _+_, _*_, _≤_, _<_}
 use native.Mathlib.Omega.{arith}
 use mathlib.Core.Path.{_≡_, refl, sym, ap, _∙_}
 use mathlib.Core.List.{List, [], _∷_, map}
@@ -11,18 +11,19 @@ use Rattle.numbers.specs.declared.text.Span.{Span}
 use Rattle.numbers.specs.declared.operands.Operand.the-variants.{At, End}
 use Rattle.numbers.specs.Text.{text, startsWith, same, indexOf, before, oneSpaced}
 use Rattle.numbers.specs.code.Spans.{spanned}
-use Rattle.numbers.specs.code.Tables.{isWord, indexIn}
+use Rattle.numbers.specs.code.Tables.{isWord, rows, indexIn}
 use Rattle.numbers.specs.Numbers.{spacedImmOf}
 use Rattle.numbers.specs.Operands.{itemOperands}
 use Rattle.numbers.specs.code.Cursors.{itemOperandsFrom, itemOperandAt}
 use Rattle.numbers.proofs.Bools.{and-left, and-right, or-left, or-right}
 use Rattle.numbers.proofs.Prefixes.{same-equal}
+use Rattle.numbers.proofs.Rows.{column-of}
 use Rattle.numbers.proofs.Parts.{items-spaced, item-step, item-end, items-all}
 use Rattle.layout.specs.declared.pseudo.Pseudo.the-variants.{Li, La, Push, Pop, Print, PrintStr, Read, ReadByte, Random}
 use Rattle.layout.specs.declared.pseudo.LineKind.{LineKind}
 use Rattle.layout.specs.declared.pseudo.LineKind.the-variants as kind
 use Rattle.layout.specs.Pseudos.{Item, ordinary, pseudo, other, Spelling, spellings, itemIn, liNumber, liWords}
-use Rattle.layout.specs.code.Kinds.{beginsAsPseudo, kindCode, kindSource, kindNumber}
+use Rattle.layout.specs.code.Kinds.{itemNumber, SpellingTable, beginsAsPseudo, kindCode, kindSource, kindNumber}
 
 -- ---- one spelling
 
@@ -71,7 +72,7 @@ pub spellings-sound : sound spellings ≡ true
 unfolding sound isName isWord same spellings
 spellings-sound = refl
 
-abbrev pub names : List Spelling → List (List ℕ)
+abbrev names : List Spelling → List (List ℕ)
 names xs = map (λ x. x .name) xs
 
 no-name : (xs : List Spelling) (s : List ℕ) → sound xs ≡ true → isName (before 32 s) xs ≡ false → itemIn xs s ≡ ordinary
@@ -159,43 +160,49 @@ flag-back : (b : Bool) → eqb (cond b 1 0) 0 ≡ not b
 flag-back true = refl
 flag-back false = refl
 
--- the columns that the code has beside the names
-abbrev pub bareColumn : List Spelling → List ℕ
-bareColumn xs = map (λ x. cond (x .bare) 1 0) xs
+item-number : (i : Item) (q : Span) → itemNumber i ≡ kindNumber (kindCode i q)
+item-number ordinary q = refl
+item-number (pseudo p) q = refl
+item-number other q = refl
 
-module _ (q : Span) where
-  abbrev pub kindColumn : List Spelling → List ℕ
-  kindColumn xs = map (λ x. kindNumber (kindCode (x .item) q)) xs
+-- every number is one that `kind_numbered` tells apart
+abbrev Numbered : List Spelling → Type 0
+Numbered xs = map (λ x. min (itemNumber (x .item)) 9) xs ≡ map (λ x. itemNumber (x .item)) xs
 
-  -- the row that the code finds: none, one that may not end the line, or one whose columns say what it is
-  module _ (xs : List Spelling) (s : List ℕ) (ok : sound xs ≡ true) (i : ℕ) (at : i ≡ indexIn (names xs) (before 32 s)) where
-    placed : itemIn xs s ≡ listedItem xs i (endsLine s)
-    placed = rw at (item-indexed xs s ok)
+pub spellings-numbered : Numbered spellings
+unfolding spellings
+spellings-numbered = refl
 
-    pub line-plain : length xs ≤ i → kind.Instr q ≡ kindCode (itemIn xs s) q
-    line-plain h = rw (placed, item-none xs i (endsLine s) h) refl
+-- the row that the code finds: none, one that may not end the line, or one whose columns say what it is
+module _ (q : Span) (xs : List Spelling) (t s : List ℕ) (table : SpellingTable xs t) (ok : sound xs ≡ true) (i : ℕ) (at : i ≡ indexIn (rows (length xs) t) (before 32 s)) where
+  placed : itemIn xs s ≡ listedItem xs i (endsLine s)
+  placed = rw (rw (table .names) at at) (item-indexed xs s ok)
 
-    module _ (h : i < length xs) where
-      abbrev found : Spelling
-      found = getD xs i noSpelling
+  pub line-plain : length xs ≤ i → kind.Instr q ≡ kindCode (itemIn xs s) q
+  line-plain h = rw (placed, item-none xs i (endsLine s) h) refl
 
-      rowed : (t : Bool) → endsLine s && eqb (getD (bareColumn xs) i 0) 0 ≡ t → itemIn xs s ≡ cond (not t) (found .item) ordinary
-      rowed t e =
-          let bare : eqb (getD (bareColumn xs) i 0) 0 ≡ not (found .bare) =
-          ap (λ (k : ℕ). eqb k 0) (List·getD-map (λ (x : Spelling). cond (x .bare) 1 0) xs i noSpelling) ∙ flag-back (found .bare) in
-          placed ∙ item-row xs i (endsLine s) h ∙ rw (rw bare at e) refl
+  module _ (h : i < length xs) where
+    abbrev found : Spelling
+    found = getD xs i noSpelling
 
-      pub line-ended : endsLine s && eqb (getD (bareColumn xs) i 0) 0 ≡ true → kind.Instr q ≡ kindCode (itemIn xs s) q
-      line-ended e = rw (rowed true e) refl
+    rowed : (b : Bool) → endsLine s && eqb (getD t (i * 16 + 15) 0) 0 ≡ b → itemIn xs s ≡ cond (not b) (found .item) ordinary
+    rowed b e =
+        let bare : eqb (getD t (i * 16 + 15) 0) 0 ≡ not (found .bare) =
+        ap (λ (k : ℕ). eqb k 0) (column-of (λ (x : Spelling). cond (x .bare) 1 0) xs noSpelling 15 i t (table .bares) h) ∙ flag-back (found .bare) in
+        placed ∙ item-row xs i (endsLine s) h ∙ rw (rw bare at e) refl
 
-      pub line-named : endsLine s && eqb (getD (bareColumn xs) i 0) 0 ≡ false → map (λ k. min k 9) (kindColumn xs) ≡ kindColumn xs
-          → (r : LineKind) → (kindNumber r ≡ min (getD (kindColumn xs) i 0) 9) × (kindSource r ≡ q) → r ≡ kindCode (itemIn xs s) q
-      line-named e small r is =
-          number-tells r (kindCode (itemIn xs s) q)
-          (is .0 ∙ sym (List·getD-map (λ (k : ℕ). min k 9) (kindColumn xs) i 0) ∙ ap (λ (l : List ℕ). getD l i 0) small
-          ∙ List·getD-map (λ (x : Spelling). kindNumber (kindCode (x .item) q)) xs i noSpelling
-          ∙ sym (ap (λ (x : Item). kindNumber (kindCode x q)) (rowed false e)))
-          (is .1 ∙ sym (source-back (itemIn xs s) q))
+    pub line-ended : endsLine s && eqb (getD t (i * 16 + 15) 0) 0 ≡ true → kind.Instr q ≡ kindCode (itemIn xs s) q
+    line-ended e = rw (rowed true e) refl
+
+    pub line-named : endsLine s && eqb (getD t (i * 16 + 15) 0) 0 ≡ false → Numbered xs
+        → (r : LineKind) → (kindNumber r ≡ min (getD t (i * 16 + 14) 0) 9) × (kindSource r ≡ q) → r ≡ kindCode (itemIn xs s) q
+    line-named e small r is =
+        number-tells r (kindCode (itemIn xs s) q)
+        (is .0 ∙ ap (λ (k : ℕ). min k 9) (column-of (λ (x : Spelling). itemNumber (x .item)) xs noSpelling 14 i t (table .kinds) h)
+        ∙ sym (List·getD-map (λ (x : Spelling). min (itemNumber (x .item)) 9) xs i noSpelling) ∙ ap (λ (l : List ℕ). getD l i 0) small
+        ∙ List·getD-map (λ (x : Spelling). itemNumber (x .item)) xs i noSpelling
+        ∙ sym (ap itemNumber (rowed false e)) ∙ item-number (itemIn xs s) q)
+        (is .1 ∙ sym (source-back (itemIn xs s) q))
 
 -- ---- the first letter
 

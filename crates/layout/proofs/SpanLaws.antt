@@ -1,15 +1,17 @@
 -- Spans and their pieces: how many bytes a span has, how many stand before a byte, and a part of a span's piece read back by its own span.
-use Prim.Native.Nat.{ℕ, suc, _+_, _-_, min, _≤_, _<_}
+use Prim.Native.Nat.{ℕ, zero, suc, _+_, _-_, min, _≤_, _<_}
+use native.Mathlib.Nat.{not-suc-le-zero, le-of-suc-le-suc}
 use mathlib.Core.Path.{_≡_, refl, sym, ap, _∙_}
 use mathlib.Core.List.{List, [], _∷_}
-use mathlib.Core.Bool.{Bool, true, false, cond}
+use mathlib.Core.Bool.{Bool, true, false, cond, _||_}
 use mathlib.Core.Option.{some}
 use native.Mathlib.Omega.{arith}
 use native.Mathlib.Numerals.{add-one}
+use lib.Dec.{eqb}
 use lib.ListN.{length, take, drop, getD, drop-of-length-le, length-take, length-drop}
-use lib.Seq.{drop-cons, take-take, take-length, length-take-le}
+use lib.Seq.{drop-cons, drop-drop, take-take, take-length, length-take-le}
 use Rattle.numbers.specs.declared.text.Span.{Span}
-use Rattle.numbers.specs.Text.{leadingSpaces, trimmed, uncommented}
+use Rattle.numbers.specs.Text.{leadingSpaces, trimmed, indexOf, uncommented}
 use Rattle.numbers.specs.code.Spans.{trimSpan, spanned, statementSpan, strLitOf}
 use Rattle.numbers.proofs.Trims.{tail, span-front, span-later, trim-span-text, trim-span-within, statement-text, statement-within}
 use Rattle.numbers.proofs.Quoted.{str-lit-within, string-some}
@@ -46,11 +48,55 @@ count-within test (x ∷ xs) = go (test x) (count-within test xs)
     go true h = omega arith
     go false h = omega arith
 
--- the statement of the bytes between two places begins between them
-pub statement-between : (t : List ℕ) (at end : ℕ) (r : Span) → at ≤ end → r ≡ statementSpan (take (end - at) (drop at t)) → at + r .start ≤ end
-statement-between t at end r h e =
-    let s = take (end - at) (drop at t) in
-    rw e (omega (arith, statement-within s, length-take (end - at) (drop at t)))
+-- from a place before that one on
+pub count-from : (test : ℕ → Bool) (n : ℕ) (s : List ℕ) → n ≤ countBefore test s → n + countBefore test (drop n s) ≡ countBefore test s
+unfolding countBefore
+count-from test zero s h = omega arith
+count-from test (suc n) [] h = absurd (not-suc-le-zero h)
+count-from test (suc n) (x ∷ xs) h = go (test x) (count-from test n xs) h
+  where
+    go : (t : Bool) → (n ≤ countBefore test xs → n + countBefore test (drop n xs) ≡ countBefore test xs) → suc n ≤ cond t 0 (suc (countBefore test xs))
+        → suc n + countBefore test (drop n xs) ≡ cond t 0 (suc (countBefore test xs))
+    go true ih k = absurd (not-suc-le-zero k)
+    go false ih k = omega (arith, ih (le-of-suc-le-suc k))
+
+-- the same of a text from a place on
+pub count-on : (test : ℕ → Bool) (t : List ℕ) (at i : ℕ) → at ≤ i → i ≤ at + countBefore test (drop at t)
+    → i + countBefore test (drop i t) ≡ at + countBefore test (drop at t)
+count-on test t at i h k =
+    let e : at + (i - at) ≡ i = omega arith in
+    let d : drop (i - at) (drop at t) ≡ drop i t = drop-drop (i - at) at t ∙ ap (λ (n : ℕ). drop n t) e in
+    omega (arith, rw d at (count-from test (i - at) (drop at t) (omega arith)))
+
+-- in a text's first n bytes
+pub count-take : (test : ℕ → Bool) (n : ℕ) (s : List ℕ) → countBefore test (take n s) ≡ min n (countBefore test s)
+unfolding countBefore
+count-take test zero s = omega arith
+count-take test (suc n) [] = omega arith
+count-take test (suc n) (x ∷ xs) = go (test x) (count-take test n xs)
+  where
+    go : (t : Bool) → countBefore test (take n xs) ≡ min n (countBefore test xs)
+        → cond t 0 (suc (countBefore test (take n xs))) ≡ min (suc n) (cond t 0 (suc (countBefore test xs)))
+    go true ih = omega arith
+    go false ih = omega arith
+
+-- the first that meets one of two tests
+pub count-either : (f g : ℕ → Bool) (s : List ℕ) → countBefore (λ x. f x || g x) s ≡ min (countBefore f s) (countBefore g s)
+unfolding countBefore
+count-either f g [] = omega arith
+count-either f g (x ∷ xs) = go (f x) (g x) (count-either f g xs)
+  where
+    go : (a b : Bool) → countBefore (λ x. f x || g x) xs ≡ min (countBefore f xs) (countBefore g xs)
+        → cond (a || b) 0 (suc (countBefore (λ x. f x || g x) xs)) ≡ min (cond a 0 (suc (countBefore f xs))) (cond b 0 (suc (countBefore g xs)))
+    go true b ih = omega arith
+    go false true ih = omega arith
+    go false false ih = omega arith
+
+-- a byte's place
+pub index-count : (b : ℕ) (s : List ℕ) → indexOf b s ≡ countBefore (λ x. eqb x b) s
+unfolding indexOf countBefore
+index-count b [] = refl
+index-count b (x ∷ xs) = ap (λ (n : ℕ). cond (eqb x b) 0 (suc n)) (index-count b xs)
 
 module _ (t : List ℕ) (q : Span) where
   -- a span has the bytes that it names, as far as the text has them

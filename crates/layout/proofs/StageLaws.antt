@@ -7,6 +7,7 @@ use mathlib.Core.Option.{Option, none, some}
 use lib.ListN.{length, take, drop, length-drop}
 use lib.Seq.{length-take-le}
 use Rattle.numbers.specs.Results.{Result, value, refused, andThen, mapped}
+use Rattle.numbers.specs.declared.text.Span.{Span}
 use Rattle.numbers.specs.code.Spans.{spanned}
 use Rattle.layout.specs.declared.limits.Room.{Room}
 use Rattle.layout.specs.declared.state.Section.{Section}
@@ -18,13 +19,16 @@ use Rattle.layout.specs.declared.state.OwnCounters.{OwnCounters}
 use Rattle.layout.specs.declared.state.RestCounters.{RestCounters}
 use Rattle.layout.specs.declared.state.Counters.{Counters}
 use Rattle.layout.specs.declared.directives.Reservation.{Reservation}
+use Rattle.layout.specs.declared.directives.Source.{Source}
+use Rattle.layout.specs.declared.directives.Source.the-variants.{Stores, Reserves}
 use Rattle.layout.specs.declared.line.EquateParts.{EquateParts}
+use Rattle.layout.specs.declared.line.OwnStatement.the-variants.{InData}
 use Rattle.layout.specs.declared.line.Line as code
 use Rattle.layout.specs.Limits.{wordLimit, bssLimit}
 use Rattle.layout.specs.Pieces.{Piece, piece}
 use Rattle.layout.specs.Statements.{OwnStatement, item, stores, reserves, reservesBss, Statement, nothing, enters, equate, own, Line, lineOf}
 use Rattle.layout.specs.State.{Items, Stored, Own, Rest, State, offsetIn, here}
-use Rattle.layout.specs.Stage.{labelStep, addEquate, bssLine, withItems, withStored, withBss, withRest}
+use Rattle.layout.specs.Stage.{labelStep, addEquate, dataLine, bssLine, withItems, withStored, withBss, withRest}
 use Rattle.layout.specs.Stage.{ownLine, says, stepParsed, stepLine}
 use Rattle.layout.specs.code.Steps.{Agrees, Steps}
 use Rattle.layout.specs.code.Places.{PlaceFits, sectionLimit}
@@ -33,6 +37,7 @@ use Rattle.layout.specs.code.Spans.{OwnWithin, StatementWithin, LabelWit
 use Rattle.layout.specs.code.Stands.{LabelsStand, EquateStore, EquatesStand, ItemsStand, DataStore, StoredStand, OwnStore, OwnStand, RestStore, RestStand}
 use Rattle.layout.specs.code.Stands.{Store, Stands, enteredOwn, offsetOf, placeOf}
 use Rattle.layout.specs.code.Fits.{Inside}
+use Rattle.layout.specs.code.Writes.{sourceReadings}
 use Rattle.layout.proofs.Gives.{Gives}
 use Rattle.layout.proofs.Kept.{bss-line-fits}
 use Rattle.layout.proofs.LineInside.{LabelInside, OwnInside, StatementInside, LineInside, line-inside}
@@ -113,6 +118,13 @@ module _ (t : List ℕ) (k : Room) (c : OwnCounters) where
         rw (← s .bss)
         (lift-stop Alike (λ y. OwnStand t k y b) r (bssLine x (c .bss)) _ n e (alike (bssLine x (c .bss)) h (bss-line-fits x (c .bss))))
 
+-- a statement of the data section is what its source writes
+pub source-line : (t : List ℕ) (k : Room) (line : ℕ) (x : Source) (q : Span) (σ : Own)
+    → ownLine k line (ownAt t (InData x q)) σ ≡ mapped (withStored σ) (dataLine k line (sourceReadings x (spanned t q)) (σ .stored))
+unfolding ownLine
+source-line t k line (Stores x) q σ = refl
+source-line t k line (Reserves x) q σ = refl
+
 -- ---- what a statement does
 
 module _ (t : List ℕ) (k : Room) (c : RestCounters) (line : ℕ) where
@@ -191,7 +203,7 @@ module _ (t : List ℕ) where
   own-within : (s : OwnStatement) → OwnInside t s → OwnWithin t (ownCode s)
   own-within (item p) g = g .within
   own-within (stores x p) g = (g .0, g .1 .within)
-  own-within (reserves x p) g = g .within
+  own-within (reserves x p) g = (tt, g .within)
   own-within (reservesBss x p) g = g .within
 
   said-within : (s : Result ℕ Statement) → Gives (StatementInside t) s → StatementWithin t (statementCode s)

@@ -2,23 +2,24 @@
 use Prim.Native.Nat.{ℕ, _+_, _≤_, _<_}
 use mathlib.Core.Path.{_≡_, refl, sym, subst, _∙_}
 use mathlib.Core.List.{List, [], _∷_}
-use mathlib.Core.Bool.{Bool, true, false, cond, not, _&&_, _||_, and-true}
+use mathlib.Core.Bool.{Bool, true, false, cond, not, _&&_, _||_, and-true, true≢false}
 use mathlib.Core.Option.{Option, none, some}
 use native.Mathlib.Omega.{arith}
 use native.Mathlib.Numerals.{add-one}
 use lib.Dec.{eqb}
 use lib.ListN.{length, take, drop}
 use borrow.Author.Tests.{ne-eqb, lt-ltb, le-ltb}
-use Rattle.numbers.specs.Text.{text, byte, isSpace, startsWith, indexOf, before}
+use Rattle.numbers.specs.Text.{text, byte, isSpace, startsWith, same, indexOf, before}
+use Rattle.numbers.proofs.Prefixes.{same-equal, longer-prefix}
 use Rattle.layout.specs.declared.state.Section.{Section}
 use Rattle.layout.specs.declared.directives.Spelling.{Spelling}
 use Rattle.layout.specs.declared.directives.Spelled.the-variants as spelled
 use Rattle.layout.specs.Bytes.{countBefore}
-use Rattle.layout.specs.Pieces.{Piece, piece, trimPiece, fromByte, isEmpty}
+use Rattle.layout.specs.Pieces.{Piece, piece, trimPiece, fromByte, holds, pieceBefore, pieceAfter, isEmpty}
 use Rattle.layout.specs.Directives.{Row, directives, rowIn}
-use Rattle.layout.specs.Statements.{asWritten, withOneSpace, withoutDot, isSectionLine, equateOf, equOf, otherIn, assignmentOf, directiveIn, onRow, unlabelledOf, labelled, parsed}
+use Rattle.layout.specs.Statements.{asWritten, withOneSpace, withoutDot, isSectionLine, equateOf, equOf, otherIn, assignmentOf, directiveIn, onRow, unlabelledOf, Line, labelled, parsed}
 use Rattle.layout.specs.code.Rows.{rowCode}
-use Rattle.layout.proofs.DirectiveLaws.{no-row}
+use Rattle.layout.specs.code.Cuts.{labelIn, afterLabel}
 
 -- a name with a dot is what follows it, and one without it is itself
 pub dotted : (n : List ℕ) → startsWith (text ".") n ≡ true → withoutDot n ≡ drop 1 n
@@ -30,6 +31,26 @@ pub undotted : (n : List ℕ) → startsWith (text ".") n ≡ false → withoutD
 unfolding startsWith
 undotted [] e = refl
 undotted (x ∷ xs) e = rw (sym (and-true (eqb x (byte "."))) ∙ e) refl
+
+-- it is the same as no text with one
+undotted-other : (n s : List ℕ) → startsWith (text ".") n ≡ true → startsWith (text ".") s ≡ false → same n s ≡ false
+undotted-other n s d h = go (same n s) refl
+  where
+    go : (t : Bool) → same n s ≡ t → t ≡ false
+    go true e = absurd (true≢false (sym d ∙ rw (same-equal n s e) h))
+    go false e = refl
+
+-- nor is it a section line
+pub undotted-line : (s : List ℕ) → startsWith (text ".") s ≡ false → isSectionLine s ≡ false
+unfolding startsWith
+undotted-line s h =
+    rw (
+      undotted-other (text ".text") s refl h,
+      undotted-other (text ".data") s refl h,
+      undotted-other (text ".bss") s refl h,
+      longer-prefix (byte ".") (text "section") s h,
+    )
+    refl
 
 -- not one of two is neither
 not-either : (a b : Bool) → not (a || b) ≡ not a && not b
@@ -73,11 +94,7 @@ module _ (s : Section) (p : Piece) where
     unfolding unlabelledOf
     by-row = rw (ne-eqb _ _ some-bytes) refl
 
-    -- what begins with no dot is no directive
-    pub dotless-other : startsWith (text ".") (p .bytes) ≡ false → unlabelledOf s p ≡ assignmentOf s p
-    dotless-other e = by-row ∙ rw (no-row (p .bytes) e) refl
-
-    -- nor is what the code finds no row for
+    -- what the code finds no row for is no directive
     pub rowless-other : spelled.Nothing ≡ rowCode (rowIn directives (p .bytes)) → unlabelledOf s p ≡ assignmentOf s p
     rowless-other e = by-row ∙ rw (none-coded (rowIn directives (p .bytes)) (sym e)) refl
 
@@ -108,12 +125,19 @@ module _ (s : Section) (p : Piece) where
       pub signed-equate : n < length (p .bytes) → isEmpty (leftOf p n) || isEmpty (rightOf p n) ≡ false → assignmentOf s p ≡ equateOf (leftOf p n) (asWritten (rightOf p n))
       signed-equate h k = sides h ∙ rw k refl
 
-    -- a line that is no section line
-    module _ (e : n ≡ indexOf (byte ":") (p .bytes)) (k : isSectionLine (p .bytes) ≡ false) where
-      pub unlabelled-line : length (p .bytes) ≤ n → parsed s p ≡ record { label = none; says = unlabelledOf s p }
-      unfolding parsed labelled
-      unlabelled-line h = rw (k, ← e, le-ltb _ _ h) refl
+  -- a line that is no section line
+  pub labelled-line : isSectionLine (p .bytes) ≡ false → parsed s p ≡ record { label = labelIn p; says = unlabelledOf s (afterLabel p) }
+  unfolding parsed labelled
+  labelled-line k = rw k (go (holds (byte ":") p))
+    where
+      name : Piece
+      name = trimPiece (pieceBefore (byte ":") p)
 
-      pub labelled-line : n < length (p .bytes) → parsed s p ≡ record { label = some (leftOf p n); says = unlabelledOf s (rightOf p n) }
-      unfolding parsed labelled before
-      labelled-line h = rw (k, ← e, lt-ltb _ _ h, add-one n) refl
+      rest : Piece
+      rest = trimPiece (pieceAfter (byte ":") p)
+
+      go : (t : Bool) → _≡_ {A = Line}
+          (cond t (record { label = some name; says = unlabelledOf s rest }) (record { label = none; says = unlabelledOf s p }))
+          (record { label = cond t (some name) none; says = unlabelledOf s (cond t rest p) })
+      go true = refl
+      go false = refl

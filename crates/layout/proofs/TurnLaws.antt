@@ -3,27 +3,34 @@ use Prim.Native.Nat.{ℕ, suc, _+_, _-_, _≤_, _<_}
 use native.Mathlib.Nat.{not-suc-le-zero, sub-zero}
 use native.Mathlib.Numerals.{add-one}
 use native.Mathlib.Omega.{arith}
-use mathlib.Core.Path.{_≡_, refl, sym, ap, ap₂, _∙_}
+use mathlib.Core.Path.{_≡_, refl, sym, ap, ap₂, subst, _∙_}
 use mathlib.Core.Bool.{Bool, true, false}
 use mathlib.Core.List.{List, [], _∷_}
 use lib.Dec.{eqb}
 use lib.ListN.{length, take, drop, replicate, length-drop, length-replicate, drop-of-length-le}
 use lib.Seq.{drop-drop, length-take-le}
 use Rattle.numbers.specs.Results.{Result, value, refused, andThen}
-use Rattle.numbers.specs.Text.{indexOf}
+use Rattle.numbers.specs.declared.text.Span.{Span}
+use Rattle.numbers.specs.Text.{startsWith, same, indexOf}
 use Rattle.numbers.proofs.Places.{index-within}
 use Rattle.layout.specs.declared.limits.Room.{Room}
+use Rattle.layout.specs.declared.state.Section.{Section}
 use Rattle.layout.specs.declared.state.Counters.{Counters}
+use Rattle.layout.specs.declared.scan.Cut.{Cut}
 use Rattle.layout.specs.Bytes.{together}
 use Rattle.layout.specs.Refusals.{Refusal, atLine}
 use Rattle.layout.specs.Limits.{Lent, roomOf}
-use Rattle.layout.specs.Pieces.{Piece, consLine, lines, linePieces}
+use Rattle.layout.specs.Pieces.{Piece, piece, consLine, lines, linePieces, statementOf}
+use Rattle.layout.specs.Statements.{unlabelledOf, labelled, parsed}
 use Rattle.layout.specs.State.{State, start}
-use Rattle.layout.specs.Stage.{stepLine, lineStage}
+use Rattle.layout.specs.Stage.{labelStep, says, stepParsed, stepLine, lineStage}
 use Rattle.layout.specs.code.Steps.{Agrees, Steps}
 use Rattle.layout.specs.code.Spans.{lineAt}
+use Rattle.layout.specs.code.Cuts.{cutLine, LineCut}
+use Rattle.layout.specs.code.Index.{labelIndexRoom}
 use Rattle.layout.specs.code.Tables.{exprRoom, labelWordRoom}
 use Rattle.layout.specs.code.Stands.{Store, store, Stands, startCounters}
+use Rattle.layout.proofs.IndexLaws.{indexed-none, distinct-none}
 use Rattle.layout.proofs.Kept.{start-fits}
 
 -- ---- the lines
@@ -47,7 +54,7 @@ abbrev pub linesFrom : List ℕ → ℕ → List Piece
 linesFrom t at = linePieces at (lines (drop at t))
 
 module _ (t : List ℕ) (at end : ℕ) (h : at < length t) (q : end ≡ at + indexOf 10 (drop at t)) where
-  pub end-within : end ≤ length t
+  end-within : end ≤ length t
   end-within = omega (arith, index-within 10 (drop at t), length-drop at t)
 
   lines-there : linesFrom t at ≡ lineAt t at end ∷ linesFrom t (end + 1)
@@ -65,6 +72,12 @@ module _ (t : List ℕ) (at end : ℕ) (h : at < length t) (q : end ≡ at + ind
       (drop-drop (suc (indexOf 10 (drop at t))) at t ∙ ap (λ (i : ℕ). drop i t) m) in
       rw s (ap (λ (i : ℕ). lineAt t at end ∷ linePieces i (lines (drop (end + 1) t))) z)
 
+-- a line whose statement is empty leaves the state as it is
+blank-line : (k : Room) (line n : ℕ) (s : Section) (σ : State) (bytes : List ℕ) → length bytes ≡ 0 → stepParsed k line (parsed s (piece n bytes)) σ ≡ value σ
+unfolding stepParsed parsed labelled unlabelledOf labelStep says startsWith same indexOf
+blank-line k line n s σ [] e = refl
+blank-line k line n s σ (x ∷ xs) e = absurd (omega arith)
+
 -- ---- the loop's head
 
 -- what all the lines come to
@@ -79,6 +92,10 @@ pub record Head (t : List ℕ) (k : Room) (b : Store) (c : Counters) (at line : 
   pub within : at ≤ length t + 1
   pub goes : lineStage k line (linesFrom t at) σ ≡ whole k t
 
+-- the same buffers and counters have the same head
+pub head-same : (t : List ℕ) (k : Room) (b b′ : Store) (c c′ : Counters) (at line : ℕ) → b ≡ b′ → c ≡ c′ → Head t k b′ c′ at line → Head t k b c at line
+head-same t k b b′ c c′ at line p q h = subst (λ (d : Counters). Head t k b d at line) (sym q) (subst (λ (a : Store). Head t k a c′ at line) (sym p) h)
+
 pub head-first : (t : List ℕ) (k : Room) (b : Store) → Stands t k startCounters b start → Head t k b startCounters 0 0
 head-first t k b s = record { σ = start; stands = s; counted = omega arith; within = omega arith; goes = refl }
 
@@ -88,54 +105,74 @@ module _ (t : List ℕ) (k : Room) (b : Store) (c : Counters) (at line : ℕ) (h
   unfolding lineStage lines linePieces
   turns-end g = sym (h .goes) ∙ rw (drop-of-length-le t g)
 
-  module _ (end : ℕ) (below : at < length t) (q : end ≡ at + indexOf 10 (drop at t)) (b′ : Store) (r : Result ℕ Counters)
-      (steps : Steps (Stands t k) c b r b′ (stepLine k line (lineAt t at end))) where
-    -- the line's step, then the lines after it
-    here-on : (m : Result ℕ State) → stepLine k line (lineAt t at end) (h .σ) ≡ m
-        → andThen (atLine line m) (lineStage k (line + 1) (linesFrom t (end + 1))) ≡ whole k t
-    unfolding lineStage
-    here-on m e =
-        rw (← e, add-one line)
-        (ap (λ (ps : List Piece). lineStage k line ps (h .σ)) (sym (lines-there t at end below q)) ∙ h .goes)
+  -- the line that is cut next
+  module _ (cut : Cut) (below : at < length t) (starts : cut .at ≡ at) (w : LineCut t cut) where
+    ends : cut .end ≡ at + indexOf 10 (drop at t)
+    ends = subst (λ (n : ℕ). cut .end ≡ n + indexOf 10 (drop n t)) starts (w .ends)
 
-    pub turn-go : (c′ : Counters) → r ≡ value c′ → Head t k b′ c′ (end + 1) (line + 1)
-    turn-go c′ e = by (stepLine k line (lineAt t at end) (h .σ)) refl (rw e at (steps (h .σ) (h .stands)))
-      where
-        by : (m : Result ℕ State) → stepLine k line (lineAt t at end) (h .σ) ≡ m → Agrees (λ d. Stands t k d b′) (value c′) m
-            → Head t k b′ c′ (end + 1) (line + 1)
-        by (value τ) f a =
-            record {
-              σ = τ;
-              stands = a;
-              counted = omega (arith, h .counted);
-              within = omega (arith, end-within t at end below q);
-              goes = here-on (value τ) f;
-            }
-        by (refused n) f a = absurd a
+    cut-there : linesFrom t at ≡ cutLine t cut ∷ linesFrom t (cut .end + 1)
+    cut-there = lines-there t at (cut .end) below ends ∙ ap (λ (n : ℕ). lineAt t n (cut .end) ∷ linesFrom t (cut .end + 1)) (sym starts)
 
-    pub turn-stop : (n : ℕ) → r ≡ refused n → whole k t ≡ refused (record { number = n; line = line })
-    turn-stop n e = by (stepLine k line (lineAt t at end) (h .σ)) refl (rw e at (steps (h .σ) (h .stands)))
-      where
-        by : (m : Result ℕ State) → stepLine k line (lineAt t at end) (h .σ) ≡ m → Agrees (λ d. Stands t k d b′) (refused n) m
-            → whole k t ≡ refused (record { number = n; line = line })
-        by (value τ) f a = absurd a
-        by (refused i) f a = sym (here-on (refused i) f) ∙ ap (λ (j : ℕ). refused (record { number = j; line = line })) (sym a)
+    module _ (b′ : Store) (r : Result ℕ Counters) (steps : Steps (Stands t k) c b r b′ (stepLine k line (cutLine t cut))) where
+      -- the line's step, then the lines after it
+      here-on : (m : Result ℕ State) → stepLine k line (cutLine t cut) (h .σ) ≡ m
+          → andThen (atLine line m) (lineStage k (line + 1) (linesFrom t (cut .end + 1))) ≡ whole k t
+      unfolding lineStage
+      here-on m e = rw (← e, add-one line) (ap (λ (ps : List Piece). lineStage k line ps (h .σ)) (sym cut-there) ∙ h .goes)
+
+      pub turn-go : (c′ : Counters) → r ≡ value c′ → Head t k b′ c′ (cut .end + 1) (line + 1)
+      turn-go c′ e = by (stepLine k line (cutLine t cut) (h .σ)) refl (rw e at (steps (h .σ) (h .stands)))
+        where
+          by : (m : Result ℕ State) → stepLine k line (cutLine t cut) (h .σ) ≡ m → Agrees (λ d. Stands t k d b′) (value c′) m
+              → Head t k b′ c′ (cut .end + 1) (line + 1)
+          by (value τ) f a =
+              record {
+                σ = τ;
+                stands = a;
+                counted = omega (arith, h .counted, ends);
+                within = omega (arith, end-within t at (cut .end) below ends);
+                goes = here-on (value τ) f;
+              }
+          by (refused n) f a = absurd a
+
+      pub turn-stop : (n : ℕ) → r ≡ refused n → whole k t ≡ refused (record { number = n; line = line })
+      turn-stop n e = by (stepLine k line (cutLine t cut) (h .σ)) refl (rw e at (steps (h .σ) (h .stands)))
+        where
+          by : (m : Result ℕ State) → stepLine k line (cutLine t cut) (h .σ) ≡ m → Agrees (λ d. Stands t k d b′) (refused n) m
+              → whole k t ≡ refused (record { number = n; line = line })
+          by (value τ) f a = absurd a
+          by (refused i) f a = sym (here-on (refused i) f) ∙ ap (λ (j : ℕ). refused (record { number = j; line = line })) (sym a)
+
+    -- a line without a statement leaves all as it is
+    pub turn-blank : cut .part .len ≤ 0 → Head t k b c (cut .end + 1) (line + 1)
+    turn-blank e =
+        let none : length (statementOf (cutLine t cut) .bytes) ≡ 0 = sym (ap (λ (q : Span). q .len) (w .statement)) ∙ omega arith in
+        turn-go b (value c) (λ σ s. rw (blank-line k line _ (σ .rest .own .section) σ (statementOf (cutLine t cut) .bytes) none) s) c refl
 
 -- ---- the start
 
 -- nothing is laid out, and the buffers hold zeros
-module _ (t : List ℕ) (words : ℕ) (l e x i d w : List ℕ) where
+module _ (t : List ℕ) (words : ℕ) (l n e x i d w : List ℕ) where
   abbrev lent : Lent
   lent = record { words = words; dataBytes = length d; labelBytes = length l; equateBytes = length e; itemBytes = length i }
 
-  pub start-stands : length x ≡ exprRoom → length w ≡ labelWordRoom
-      → l ≡ replicate (length l) 0 → e ≡ replicate (length e) 0 → x ≡ replicate (length x) 0 → i ≡ replicate (length i) 0
-      → d ≡ replicate (length d) 0 → w ≡ replicate (length w) 0 → Stands t (roomOf lent) startCounters (store l e x i d w) start
+  pub start-stands : length n ≡ labelIndexRoom → length x ≡ exprRoom → length w ≡ labelWordRoom
+      → l ≡ replicate (length l) 0 → n ≡ replicate (length n) 0 → e ≡ replicate (length e) 0 → x ≡ replicate (length x) 0 → i ≡ replicate (length i) 0
+      → d ≡ replicate (length d) 0 → w ≡ replicate (length w) 0 → Stands t (roomOf lent) startCounters (store l n e x i d w) start
   unfolding together
-  start-stands hx hw zl ze zx zi zd zw =
+  start-stands hn hx hw zl zn ze zx zi zd zw =
       let f = start-fits t (roomOf lent) in
       record {
-        labels = record { counted = refl; fits = f .labels; limit = omega arith; lent = omega arith; bytes = rw (sub-zero (length l)) zl };
+        labels = record {
+          counted = refl;
+          fits = f .labels;
+          limit = omega arith;
+          lent = omega arith;
+          records = rw (sub-zero (length l)) zl;
+          room = hn;
+          indexed = rw zn (indexed-none (length n) (omega (arith, hn)));
+          distinct = distinct-none;
+        };
         rest = record {
           equates = record {
             counted = refl;
@@ -182,11 +219,11 @@ module _ (t : List ℕ) (words : ℕ) (l e x i d w : List ℕ) where
 -- the same by how many zeros each buffer has
 pub start-zeros : (t : List ℕ) (words l e i d : ℕ)
     → Stands t (roomOf (record { words = words; dataBytes = d; labelBytes = l; equateBytes = e; itemBytes = i })) startCounters
-    (store (replicate l 0) (replicate e 0) (replicate exprRoom 0) (replicate i 0) (replicate d 0) (replicate labelWordRoom 0)) start
+    (store (replicate l 0) (replicate labelIndexRoom 0) (replicate e 0) (replicate exprRoom 0) (replicate i 0) (replicate d 0) (replicate labelWordRoom 0)) start
 start-zeros t words l e i d =
     rw (length-replicate {A = ℕ} l 0, length-replicate {A = ℕ} e 0, length-replicate {A = ℕ} i 0, length-replicate {A = ℕ} d 0) at
-    (start-stands t words (replicate l 0) (replicate e 0) (replicate exprRoom 0) (replicate i 0) (replicate d 0) (replicate labelWordRoom 0)
-    (length-replicate {A = ℕ} exprRoom 0) (length-replicate {A = ℕ} labelWordRoom 0) (zeros l) (zeros e) (zeros exprRoom) (zeros i) (zeros d) (zeros labelWordRoom))
+    (start-stands t words (replicate l 0) (replicate labelIndexRoom 0) (replicate e 0) (replicate exprRoom 0) (replicate i 0) (replicate d 0) (replicate labelWordRoom 0)
+    (length-replicate {A = ℕ} labelIndexRoom 0) (length-replicate {A = ℕ} exprRoom 0) (length-replicate {A = ℕ} labelWordRoom 0) (zeros l) (zeros labelIndexRoom) (zeros e) (zeros exprRoom) (zeros i) (zeros d) (zeros labelWordRoom))
   where
     zeros : (n : ℕ) → replicate {A = ℕ} n 0 ≡ replicate (length (replicate {A = ℕ} n 0)) 0
     zeros n = ap (λ (m : ℕ). replicate m 0) (sym (length-replicate {A = ℕ} n 0))

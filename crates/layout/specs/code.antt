@@ -2,8 +2,10 @@ pub mod Steps
 pub mod Places
 pub mod Rows
 pub mod Spans
+pub mod Cuts
 pub mod Kinds
 pub mod Writes
+pub mod Index
 pub mod Tables
 pub mod Fits
 pub mod Stands

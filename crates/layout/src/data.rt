@@ -1,7 +1,7 @@
 // The data section: what an operand writes, and the one place where the data grow.
 use crate::directives::Reservation;
-use crate::directives::Reserve;
 use crate::directives::Reserved;
+use crate::directives::Source;
 use crate::directives::Store;
 use crate::directives::Width;
 use crate::directives::place_after;
@@ -27,27 +27,31 @@ use numbers::literals::StrLit;
 use numbers::literals::parse_str_lit;
 use numbers::operands::Operand;
 use numbers::operands::operand_at;
+use numbers::short::Short;
+use numbers::short::short_number;
 use numbers::text::Span;
 use numbers::text::span_bytes;
 ghost use mathlib.Core.Path.{_≡_};
 ghost use mathlib.Core.Bool.{_||_};
-ghost use mathlib.Core.List.{List, [], _∷_, _++_};
+ghost use mathlib.Core.Option.{some};
+ghost use mathlib.Core.List.{List, _++_};
 ghost use Prim.Native.Nat.{ℕ, _≤_};
 ghost use lib.ListN.{length, drop};
 ghost use Rattle.numbers.specs.Results.{mapped};
 ghost use Rattle.numbers.specs.code.Spans.{spanned};
 ghost use Rattle.numbers.specs.Literals.{stringOf};
 ghost use Rattle.numbers.specs.code.Meanings.{imm64Value};
-ghost use Rattle.numbers.specs.Numbers.{immOf};
 ghost use Rattle.layout.specs.declared.directives.Store.the-variants.{Numbers};
+ghost use Rattle.layout.specs.declared.directives.Source.the-variants.{Stores};
 ghost use Rattle.layout.specs.Bytes.{isDigit};
 ghost use Rattle.layout.specs.Limits.{textLimit, dataLimit};
-ghost use Rattle.layout.specs.Directives.{gap, reservation, isLabelStart, isLabelName, widthBytes, readAt, rangeAt, unread};
-ghost use Rattle.layout.specs.Directives.{operandWrite, stringWrite, storeWrites};
+ghost use Rattle.layout.specs.Directives.{gap, isLabelStart, isLabelName, widthBytes, readAt, rangeAt, unread};
+ghost use Rattle.layout.specs.Directives.{numberOrName, operandWrite, stringWrite};
 ghost use Rattle.layout.specs.Stage.{writeSize, addLabelWord, dataWrite, dataLine};
 ghost use Rattle.layout.specs.code.Spans.{SpanWithin, LineIn};
-ghost use Rattle.layout.specs.code.Rows.{FewZeros, reservedOf, ReservedSmall};
+ghost use Rattle.layout.specs.code.Rows.{SourceFits, reservedOf, ReservedSmall};
 ghost use Rattle.layout.specs.code.Writes.{writeAt, WriteFits, readingAt, ReadingFits, writtenBytes, Sized};
+ghost use Rattle.layout.specs.code.Writes.{sourceReadings, nextCode, NextIs};
 ghost use Rattle.layout.specs.code.Lent.{LabelWordsReady, LabelWordsSteps, DataReady, DataSteps};
 
 // What an operand writes: a number of a width, a part of the text and so many bytes 0, zeros, or the address of a label.
@@ -148,6 +152,16 @@ fn unread_operand(text: &[u8], width: Width, operand: Span) -> Reading
     Reading::As(Write::Address(operand))
 }
 
+// A number, where the width stores it.
+fn number_write(width: Width, v: i64) -> Reading
+    ensures { λ r. ⌜ ((t s : List ℕ) → (readingAt t r ≡ numberOrName width (some v) s) × ReadingFits t r) ⌝ }
+{
+    if !width.takes(v) {
+        return Reading::Refused(7);
+    }
+    Reading::As(Write::Number(width, v))
+}
+
 fn operand_write(text: &[u8], width: Width, operand: Span) -> Reading
     requires { ⌜ SpanWithin (now text) operand ⌝ }
     ensures { λ r. ⌜ (readingAt (now (text .entry)) r ≡ operandWrite width (spanned (now (text .entry)) operand))
@@ -156,10 +170,7 @@ fn operand_write(text: &[u8], width: Width, operand: Span) -> Reading
     let Imm64::Value(v) = width.read(span_bytes(text, operand)) else {
         return unread_operand(text, width, operand);
     };
-    if !width.takes(v) {
-        return Reading::Refused(7);
-    }
-    Reading::As(Write::Number(width, v))
+    number_write(width, v)
 }
 
 // A string, and so many bytes 0 after it.
@@ -176,6 +187,15 @@ fn string_write(text: &[u8], part: Span, zeros: usize) -> Reading
         len: inner.len,
     };
     Reading::As(Write::Text(between, zeros))
+}
+
+fn gap_of(reserved: Reserved) -> Reading
+    ensures { λ r. ⌜ ((t : List ℕ) → (readingAt t r ≡ mapped gap (reservedOf reserved)) × (ReservedSmall reserved → ReadingFits t r)) ⌝ }
+{
+    match reserved {
+        Reserved::As(reservation) => Reading::As(Write::Gap(reservation)),
+        Reserved::Refused(n) => Reading::Refused(n),
+    }
 }
 
 impl Write {
@@ -270,119 +290,103 @@ fn data_write(
     }
 }
 
-// An operand that was read.
-fn reading_line(
-    text: &[u8],
-    data_bytes: &mut [u8],
-    label_words: &mut [u8],
-    room: Room,
-    st: DataCount,
-    line: u32,
-    reading: Reading,
-) -> DataStep
-    requires { ⌜ DataReady text «data_bytes» «label_words» room st × LineIn (now text) line
-        × ReadingFits (now text) reading ⌝ }
-    ensures { λ r. ⌜ DataSteps text «data_bytes» «label_words» room st r
-        (dataLine room line (readingAt (now (text .entry)) reading ∷ [])) ⌝ }
+// What a line reads next: what is written and the place to go on from, a refusal, or nothing more.
+enum Next {
+    As(Write, usize),
+    Refused(u8),
+    End,
+}
+
+fn next_of(reading: Reading, after: usize) -> Next
+    ensures { λ r. ⌜ r ≡ nextCode reading after ⌝ }
 {
     match reading {
-        Reading::As(write) => data_write(text, data_bytes, label_words, room, st, line, write),
-        Reading::Refused(n) => DataStep::Stop(n),
+        Reading::As(write) => Next::As(write, after),
+        Reading::Refused(n) => Next::Refused(n),
     }
 }
 
-// A directive's numbers, operand by operand.
-fn number_line(
+// The operand that begins at a place: most are short numbers.
+fn next_number(text: &[u8], width: Width, part: Span, at: usize) -> Next
+    requires { ⌜ SpanWithin (now text) part ⌝ }
+    ensures { λ r. ⌜ NextIs (now (text .entry)) (Stores (Numbers width)) (spanned (now (text .entry)) part) at r ⌝ }
+{
+    let bytes = span_bytes(text, part);
+    if let Short::Is(v, after) = short_number(bytes, at) {
+        return next_of(number_write(width, v as i64), after);
+    }
+    let Operand::At(operand, after) = operand_at(bytes, at) else {
+        return Next::End;
+    };
+    let place = Span {
+        start: part.start + operand.start,
+        len: operand.len,
+    };
+    next_of(operand_write(text, width, place), after)
+}
+
+// What a line reads from a place on: numbers operand by operand, all else at once.
+fn next_write(text: &[u8], source: Source, part: Span, at: usize) -> Next
+    requires { ⌜ SpanWithin (now text) part × SourceFits source ⌝ }
+    ensures { λ r. ⌜ NextIs (now (text .entry)) source (spanned (now (text .entry)) part) at r ⌝ }
+{
+    match source {
+        Source::Stores(what) => match what {
+            Store::Numbers(width) => next_number(text, width, part, at),
+            Store::Text(zeros) => {
+                if 0 < at {
+                    return Next::End;
+                }
+                next_of(string_write(text, part, zeros), 1)
+            }
+            Store::Float => Next::Refused(21),
+        },
+        Source::Reserves(what) => {
+            if 0 < at {
+                return Next::End;
+            }
+            next_of(gap_of(reservation_of(what, span_bytes(text, part))), 1)
+        }
+    }
+}
+
+// A directive and what follows its name. One loop for all of them: `data_write` is called at one place, and inlined there.
+pub fn data_line(
     text: &[u8],
     data_bytes: &mut [u8],
     label_words: &mut [u8],
     room: Room,
     st: DataCount,
     line: u32,
-    width: Width,
+    source: Source,
     part: Span,
 ) -> DataStep
     requires { ⌜ DataReady text «data_bytes» «label_words» room st × LineIn (now text) line
-        × SpanWithin (now text) part ⌝ }
+        × SpanWithin (now text) part × SourceFits source ⌝ }
     ensures { λ r. ⌜ DataSteps text «data_bytes» «label_words» room st r
-        (dataLine room line (storeWrites (Numbers width) (spanned (now (text .entry)) part))) ⌝ }
+        (dataLine room line (sourceReadings source (spanned (now (text .entry)) part))) ⌝ }
 {
-    let bytes = span_bytes(text, part);
     let mut now = st;
     let mut at = 0;
     loop {
-        let Operand::At(operand, after) = operand_at(bytes, at) else {
-            return DataStep::Now(now);
-        };
-        let place = Span {
-            start: part.start + operand.start,
-            len: operand.len,
-        };
-        let reading = operand_write(text, width, place);
-        match reading_line(text, data_bytes, label_words, room, now, line, reading) {
-            DataStep::Now(next) => {
-                now = next;
-                at = after;
+        match next_write(text, source, part, at) {
+            Next::As(write, after) => {
+                match data_write(text, data_bytes, label_words, room, now, line, write) {
+                    DataStep::Now(next) => {
+                        now = next;
+                        at = after;
+                    }
+                    DataStep::Stop(n) => {
+                        return DataStep::Stop(n);
+                    }
+                }
             }
-            DataStep::Stop(n) => {
+            Next::Refused(n) => {
                 return DataStep::Stop(n);
             }
+            Next::End => {
+                return DataStep::Now(now);
+            }
         }
     }
-}
-
-// A directive that stores, and what follows its name.
-pub fn store_line(
-    text: &[u8],
-    data_bytes: &mut [u8],
-    label_words: &mut [u8],
-    room: Room,
-    st: DataCount,
-    line: u32,
-    what: Store,
-    part: Span,
-) -> DataStep
-    requires { ⌜ DataReady text «data_bytes» «label_words» room st × LineIn (now text) line
-        × SpanWithin (now text) part × FewZeros what ⌝ }
-    ensures { λ r. ⌜ DataSteps text «data_bytes» «label_words» room st r
-        (dataLine room line (storeWrites what (spanned (now (text .entry)) part))) ⌝ }
-{
-    match what {
-        Store::Numbers(width) => {
-            number_line(text, data_bytes, label_words, room, st, line, width, part)
-        }
-        Store::Text(zeros) => {
-            let reading = string_write(text, part, zeros);
-            reading_line(text, data_bytes, label_words, room, st, line, reading)
-        }
-        Store::Float => DataStep::Stop(21),
-    }
-}
-
-fn gap_of(reserved: Reserved) -> Reading
-    ensures { λ r. ⌜ ((t : List ℕ) → (readingAt t r ≡ mapped gap (reservedOf reserved)) × (ReservedSmall reserved → ReadingFits t r)) ⌝ }
-{
-    match reserved {
-        Reserved::As(reservation) => Reading::As(Write::Gap(reservation)),
-        Reserved::Refused(n) => Reading::Refused(n),
-    }
-}
-
-// A directive that gives zeros, and what follows its name.
-pub fn reserve_line(
-    text: &[u8],
-    data_bytes: &mut [u8],
-    label_words: &mut [u8],
-    room: Room,
-    st: DataCount,
-    line: u32,
-    what: Reserve,
-    part: Span,
-) -> DataStep
-    requires { ⌜ DataReady text «data_bytes» «label_words» room st × LineIn (now text) line ⌝ }
-    ensures { λ r. ⌜ DataSteps text «data_bytes» «label_words» room st r
-        (dataLine room line (mapped gap (reservation what (immOf (spanned (now (text .entry)) part))) ∷ [])) ⌝ }
-{
-    let reading = gap_of(reservation_of(what, span_bytes(text, part)));
-    reading_line(text, data_bytes, label_words, room, st, line, reading)
 }

@@ -2,7 +2,9 @@
 use numbers::imm::parse_imm;
 use numbers::ints::Imm;
 use numbers::table::ROW;
+use numbers::table::SLOTS;
 use numbers::table::prefix_in;
+use numbers::text::first_is;
 ghost use mathlib.Core.Path.{_≡_};
 ghost use Prim.Native.Nat.{min, _≤_};
 ghost use lib.ListN.{length};
@@ -31,6 +33,12 @@ pub enum Store {
     Float,
 }
 
+// What a line of the data section writes: what is stored, or zeros.
+pub enum Source {
+    Stores(Store),
+    Reserves(Reserve),
+}
+
 pub enum Directive {
     Symbol,
     Ignored,
@@ -53,43 +61,45 @@ pub enum Spelled {
 
 const COUNT: usize = 23;
 
-pub type Names = [u8; COUNT * ROW];
+// The columns: how long a row's name is, what it is (`directive_numbered`), and whether the data section has it.
+const LENGTH: usize = 13;
 
-// A constant is built anew where it is used: the names are made once a call, and lent down.
+const KIND: usize = 14;
+
+const IN_DATA: usize = 15;
+
+pub type Names = [u8; COUNT * ROW + SLOTS];
+
+// A constant is built anew where it is used: the table is made once a call, and lent down. Behind the rows, the entry of
+// slot (second byte + 3 * third byte) % 64 is the first row whose name has that slot, and 255 where none has it.
 pub const NAMES: Names = *b"\
-    .globl          \
-    .global         \
-    .type           \
-    .size           \
-    .file           \
-    .ident          \
-    .option         \
-    .attribute      \
-    .cfi_           \
-    .equ            \
-    .set            \
-    .align          \
-    .space          \
-    .zero           \
-    .skip           \
-    .byte           \
-    .half           \
-    .word           \
-    .dword          \
-    .float          \
-    .asciz          \
-    .string         \
-    .ascii          ";
-
-// Beside each name its length, what it is (`directive_numbered`), and whether the data section has it.
-const LENGTHS: [u8; COUNT] =
-    *b"\x06\x07\x05\x05\x05\x06\x07\x0a\x05\x04\x04\x06\x06\x05\x05\x05\x05\x05\x06\x06\x06\x07\x06";
-
-const KINDS: [u8; COUNT] =
-    *b"\x00\x00\x01\x01\x01\x01\x01\x01\x01\x02\x02\x03\x04\x04\x04\x05\x06\x07\x08\x09\x0a\x0a\x0b";
-
-const IN_DATA: [u8; COUNT] =
-    *b"\x01\x01\x01\x01\x01\x01\x01\x01\x01\x01\x01\x01\x01\x01\x00\x01\x01\x01\x01\x01\x01\x01\x01";
+    .globl       \x06\x00\x01\
+    .global      \x07\x00\x01\
+    .type        \x05\x01\x01\
+    .size        \x05\x01\x01\
+    .file        \x05\x01\x01\
+    .ident       \x06\x01\x01\
+    .option      \x07\x01\x01\
+    .attribute   \x0a\x01\x01\
+    .cfi_        \x05\x01\x01\
+    .equ         \x04\x02\x01\
+    .set         \x04\x02\x01\
+    .align       \x06\x03\x01\
+    .space       \x06\x04\x01\
+    .zero        \x05\x04\x01\
+    .skip        \x05\x04\x00\
+    .byte        \x05\x05\x01\
+    .half        \x05\x06\x01\
+    .word        \x05\x07\x01\
+    .dword       \x06\x08\x01\
+    .float       \x06\x09\x01\
+    .asciz       \x06\x0a\x01\
+    .string      \x07\x0a\x01\
+    .ascii       \x06\x0b\x01\
+    \xff\xff\xff\x0c\x11\xff\xff\xff\xff\x12\xff\x10\xff\x0f\xff\x15\
+    \xff\xff\xff\xff\xff\x05\xff\xff\xff\xff\xff\xff\xff\xff\xff\x02\
+    \xff\x04\x0a\xff\xff\x0b\xff\xff\xff\x0d\x13\x00\xff\xff\x03\xff\
+    \xff\xff\xff\xff\x0e\xff\xff\xff\x09\xff\x14\xff\xff\x07\xff\x06";
 
 // What a number in a row says.
 fn directive_numbered(kind: u8) -> Directive
@@ -116,14 +126,18 @@ pub fn directive_of(names: &Names, s: &[u8]) -> Spelled
     requires { ⌜ DirectiveNames (now names) ⌝ }
     ensures { λ r. ⌜ (r ≡ rowCode (rowIn directives (now (s .entry)))) × SpelledWithin r (length (now (s .entry))) ⌝ }
 {
+    if !first_is(s, b'.') {
+        return Spelled::Nothing;
+    }
     let row = prefix_in(names, COUNT, s);
     if COUNT <= row {
         return Spelled::Nothing;
     }
+    let at = row * ROW;
     Spelled::As(Spelling {
-        directive: directive_numbered(KINDS[row]),
-        len: LENGTHS[row] as usize,
-        in_data: IN_DATA[row] != 0,
+        directive: directive_numbered(names[at + KIND]),
+        len: names[at + LENGTH] as usize,
+        in_data: names[at + IN_DATA] != 0,
     })
 }
 

@@ -1,4 +1,7 @@
 // Labels, by name: the last definition of a name wins.
+use crate::index::BUCKETS;
+use crate::index::bucket_of;
+use crate::index::insert;
 use crate::limits::Room;
 use crate::line::LabelPart;
 use crate::records::LabelRecord;
@@ -17,7 +20,8 @@ ghost use Rattle.layout.specs.Limits.{labelSize};
 ghost use Rattle.layout.specs.Stage.{addLabel, labelStep};
 ghost use Rattle.layout.specs.code.Spans.{SpanWithin, LabelWithin, LineIn, pieceAt, labelPartAt};
 ghost use Rattle.layout.specs.code.Places.{PlaceFits};
-ghost use Rattle.layout.specs.code.Tables.{labelNameAt, labelNames, lookupIn, lookupOf, LookupBelow};
+ghost use Rattle.layout.specs.code.Index.{bucketOf};
+ghost use Rattle.layout.specs.code.Tables.{labelNameAt, LabelsIndexed, LooksUp};
 ghost use Rattle.layout.specs.code.Lent.{LabelsReady, LabelsSteps};
 
 // Where a label's record stands among the others, or nowhere.
@@ -39,35 +43,51 @@ fn is_named(text: &[u8], labels: &[u8], k: usize, name: &[u8]) -> bool
     same_bytes(span_bytes(text, place), name)
 }
 
-// The first of so many records that has this name.
-pub fn find_label(text: &[u8], labels: &[u8], count: usize, name: &[u8]) -> Lookup
-    requires { ⌜ count * labelSize ≤ length (now labels) ⌝ }
-    ensures { λ r. ⌜ (lookupOf r ≡ lookupIn (now (name .entry)) 0 (labelNames (now (text .entry)) (now (labels .entry)) 0 count))
-        × LookupBelow count r ⌝ }
+// The one of so many records that has this name, by the chain of the name's bucket. The contract alone names the count.
+fn find_in(
+    text: &[u8],
+    labels: &[u8],
+    index: &[u16],
+    count: usize,
+    name: &[u8],
+    bucket: usize,
+) -> Lookup
+    requires { ⌜ LabelsIndexed (now text) (now labels) (now index) count × (bucket ≡ bucketOf (now name)) ⌝ }
+    ensures { λ r. ⌜ LooksUp (now (text .entry)) (now (labels .entry)) count (now (name .entry)) r ⌝ }
 {
-    let mut k = 0;
-    while k < count {
+    let mut entry = index[bucket] as usize;
+    while 0 < entry {
+        let k = entry - 1;
         if is_named(text, labels, k, name) {
             return Lookup::At(k);
         }
-        k += 1;
+        entry = index[BUCKETS + k] as usize;
     }
     Lookup::Nothing
+}
+
+// The one of so many records that has this name.
+pub fn find_label(text: &[u8], labels: &[u8], index: &[u16], count: usize, name: &[u8]) -> Lookup
+    requires { ⌜ LabelsIndexed (now text) (now labels) (now index) count ⌝ }
+    ensures { λ r. ⌜ LooksUp (now (text .entry)) (now (labels .entry)) count (now (name .entry)) r ⌝ }
+{
+    find_in(text, labels, index, count, name, bucket_of(name))
 }
 
 // A label, with its place for its address.
 fn add_label(
     text: &[u8],
     labels: &mut [u8],
+    index: &mut [u16],
     room: Room,
     count: usize,
     place: Place,
     line: u32,
     name: Span,
 ) -> Count
-    requires { ⌜ LabelsReady text labels room count × PlaceFits place × LineIn (now text) line
+    requires { ⌜ LabelsReady text labels index room count × PlaceFits place × LineIn (now text) line
         × SpanWithin (now text) name ⌝ }
-    ensures { λ r. ⌜ LabelsSteps text labels room count r
+    ensures { λ r. ⌜ LabelsSteps text labels index room count r
         (addLabel room (record { name = pieceAt (now (text .entry)) name; place = place; line = line })) ⌝ }
 {
     let label = LabelRecord {
@@ -76,7 +96,9 @@ fn add_label(
         address: place.code(),
         line,
     };
-    match find_label(text, labels, count, span_bytes(text, name)) {
+    let bytes = span_bytes(text, name);
+    let bucket = bucket_of(bytes);
+    match find_in(text, labels, index, count, bytes, bucket) {
         Lookup::At(k) => {
             put_label(labels, k, label);
             Count::Now(count)
@@ -86,6 +108,7 @@ fn add_label(
                 return Count::Stop(45);
             }
             put_label(labels, count, label);
+            insert(index, count, bucket);
             Count::Now(count + 1)
         }
     }
@@ -95,19 +118,20 @@ fn add_label(
 pub fn label_step(
     text: &[u8],
     labels: &mut [u8],
+    index: &mut [u16],
     room: Room,
     count: usize,
     place: Place,
     line: u32,
     label: LabelPart,
 ) -> Count
-    requires { ⌜ LabelsReady text labels room count × PlaceFits place × LineIn (now text) line
+    requires { ⌜ LabelsReady text labels index room count × PlaceFits place × LineIn (now text) line
         × LabelWithin (now text) label ⌝ }
-    ensures { λ r. ⌜ LabelsSteps text labels room count r
+    ensures { λ r. ⌜ LabelsSteps text labels index room count r
         (labelStep room place line (labelPartAt (now (text .entry)) label)) ⌝ }
 {
     match label {
-        LabelPart::Named(name) => add_label(text, labels, room, count, place, line, name),
+        LabelPart::Named(name) => add_label(text, labels, index, room, count, place, line, name),
         LabelPart::Unnamed => Count::Now(count),
     }
 }

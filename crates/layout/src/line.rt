@@ -3,19 +3,20 @@
 use crate::directives::Directive;
 use crate::directives::Names;
 use crate::directives::Reserve;
+use crate::directives::Source;
 use crate::directives::Spelled;
 use crate::directives::Spelling;
 use crate::directives::Store;
 use crate::directives::directive_of;
 use crate::pieces::part_from;
 use crate::pieces::part_to;
-use crate::pieces::statement_part;
 use crate::pieces::trim_from;
 use crate::pieces::trim_to;
 use crate::pieces::word_len;
 use crate::state::Section;
 use numbers::text::Span;
 use numbers::text::find;
+use numbers::text::find_from;
 use numbers::text::first_is;
 use numbers::text::is_space;
 use numbers::text::same_bytes;
@@ -30,9 +31,10 @@ ghost use Rattle.layout.specs.Bytes.{countBefore};
 ghost use Rattle.layout.specs.Pieces.{Piece, fromByte};
 ghost use Rattle.layout.specs.Statements.{endsSectionName, sectionNamed, sectionOf, isSectionLine, sectionLine, symbolAfter};
 ghost use Rattle.layout.specs.Statements.{equateOf, equOf, otherIn, assignmentOf, reservesIn, storesIn, directiveIn};
-ghost use Rattle.layout.specs.Statements.{unlabelledOf, parsed, lineOf};
+ghost use Rattle.layout.specs.Statements.{unlabelledOf, parsed};
 ghost use Rattle.layout.specs.code.Rows.{DirectiveNames};
-ghost use Rattle.layout.specs.code.Spans.{spanOf, pieceAt, lineAt, statementCode, lineCode};
+ghost use Rattle.layout.specs.code.Spans.{spanOf, pieceAt, statementCode, lineCode};
+ghost use Rattle.layout.specs.code.Cuts.{isMark, NoSignBefore, Parted};
 
 // An equate's name and expression; the expression of an `.equ` or `.set` parted at a blank is read with each run of
 // white space as one space.
@@ -42,11 +44,10 @@ pub struct EquateParts {
     pub one_space: bool,
 }
 
-// What the section's own rule takes: a line of the text section; in data what is stored, or zeros; in bss zeros.
+// What the section's own rule takes: a line of the text section; what is written in data; in bss zeros.
 pub enum OwnStatement {
     Item(Span),
-    Stores(Store, Span),
-    Reserves(Reserve, Span),
+    InData(Source, Span),
     ReservesBss(Reserve, Span),
 }
 
@@ -122,6 +123,9 @@ fn section_name_len(s: &[u8]) -> usize
 fn is_section_line(s: &[u8]) -> bool
     ensures { λ r. ⌜ r ≡ isSectionLine (now (s .entry)) ⌝ }
 {
+    if !first_is(s, b'.') {
+        return false;
+    }
     (same_bytes(b".text", s) | (same_bytes(b".data", s) | same_bytes(b".bss", s)))
         | starts_with(s, b".section")
 }
@@ -188,8 +192,9 @@ fn other_in(section: Section, part: Span) -> Statement
     }
 }
 
-// `name = expr`, or what the section's own rule takes.
-fn assignment(text: &[u8], section: Section, part: Span) -> Statement
+// `name = expr`, whose `=` is looked for from a byte on, or what the section's own rule takes.
+fn assignment(text: &[u8], section: Section, part: Span, from: usize) -> Statement
+    requires { ⌜ NoSignBefore from (spanned (now text) part) ⌝ }
     ensures { λ r. ⌜ r ≡ statementCode (assignmentOf section (pieceAt (now (text .entry)) part)) ⌝ }
 {
     let bytes = span_bytes(text, part);
@@ -197,7 +202,7 @@ fn assignment(text: &[u8], section: Section, part: Span) -> Statement
     if first_is(bytes, b'.') {
         return other_in(section, whole);
     }
-    let sign = find(bytes, b'=');
+    let sign = find_from(bytes, from, b'=');
     if bytes.len() <= sign {
         return other_in(section, whole);
     }
@@ -219,7 +224,7 @@ fn reserves_in(section: Section, in_data: bool, what: Reserve, part: Span, rest:
             if !in_data {
                 return Statement::Refused(10);
             }
-            Statement::Own(OwnStatement::Reserves(what, rest))
+            Statement::Own(OwnStatement::InData(Source::Reserves(what), rest))
         }
         Section::Bss => Statement::Own(OwnStatement::ReservesBss(what, rest)),
     }
@@ -231,7 +236,7 @@ fn stores_in(section: Section, what: Store, part: Span, rest: Span) -> Statement
 {
     match section {
         Section::Text => Statement::Own(OwnStatement::Item(part)),
-        Section::Data => Statement::Own(OwnStatement::Stores(what, rest)),
+        Section::Data => Statement::Own(OwnStatement::InData(Source::Stores(what), rest)),
         Section::Bss => Statement::Refused(12),
     }
 }
@@ -256,27 +261,54 @@ fn directive_in(text: &[u8], section: Section, part: Span, spelling: Spelling) -
     }
 }
 
-// A statement after its label. Only what begins with a dot can be a directive.
-fn unlabelled(names: &Names, text: &[u8], section: Section, part: Span) -> Statement
-    requires { ⌜ DirectiveNames (now names) ⌝ }
+// A statement after its label, whose `=` is looked for from a byte on.
+fn unlabelled(names: &Names, text: &[u8], section: Section, part: Span, from: usize) -> Statement
+    requires { ⌜ DirectiveNames (now names) × NoSignBefore from (spanned (now text) part) ⌝ }
     ensures { λ r. ⌜ r ≡ statementCode (unlabelledOf section (pieceAt (now (text .entry)) part)) ⌝ }
 {
     let bytes = span_bytes(text, part);
     if bytes.len() == 0 {
         return Statement::Nothing;
     }
-    if !first_is(bytes, b'.') {
-        return assignment(text, section, part);
+    match directive_of(names, bytes) {
+        Spelled::As(spelling) => directive_in(text, section, part, spelling),
+        Spelled::Nothing => assignment(text, section, part, from),
     }
-    let Spelled::As(spelling) = directive_of(names, bytes) else {
-        return assignment(text, section, part);
-    };
-    directive_in(text, section, part, spelling)
 }
 
-// The line whose statement stands at a part of the text.
-fn parsed(names: &Names, text: &[u8], section: Section, part: Span) -> Line
-    requires { ⌜ DirectiveNames (now names) ⌝ }
+// A statement's label, what follows it, and from which byte of that on a `=` is looked for.
+struct Labelled {
+    label: LabelPart,
+    rest: Span,
+    from: usize,
+}
+
+// Before the mark stands neither a colon nor a `=`.
+fn part_label(text: &[u8], part: Span, mark: usize) -> Labelled
+    requires { ⌜ mark ≡ countBefore isMark (spanned (now text) part) ⌝ }
+    ensures { λ r. ⌜ Parted (now (text .entry)) (pieceAt (now (text .entry)) part) r ⌝ }
+{
+    let bytes = span_bytes(text, part);
+    let colon = find_from(bytes, mark, b':');
+    if bytes.len() <= colon {
+        return Labelled {
+            label: LabelPart::Unnamed,
+            rest: part,
+            from: mark,
+        };
+    }
+    let name = trim_to(text, part, colon);
+    let rest = trim_from(text, part, colon + 1);
+    Labelled {
+        label: LabelPart::Named(name),
+        rest,
+        from: 0,
+    }
+}
+
+// The line whose statement stands at a part of the text: its label and what it says.
+pub fn line_of(names: &Names, text: &[u8], section: Section, part: Span, mark: usize) -> Line
+    requires { ⌜ DirectiveNames (now names) × (mark ≡ countBefore isMark (spanned (now text) part)) ⌝ }
     ensures { λ r. ⌜ r ≡ lineCode (parsed section (pieceAt (now (text .entry)) part)) ⌝ }
 {
     let bytes = span_bytes(text, part);
@@ -286,25 +318,8 @@ fn parsed(names: &Names, text: &[u8], section: Section, part: Span) -> Line
             says: section_line(bytes),
         };
     }
-    let colon = find(bytes, b':');
-    if bytes.len() <= colon {
-        return Line {
-            label: LabelPart::Unnamed,
-            says: unlabelled(names, text, section, part),
-        };
-    }
-    let name = trim_to(text, part, colon);
-    let rest = trim_from(text, part, colon + 1);
-    Line {
-        label: LabelPart::Named(name),
-        says: unlabelled(names, text, section, rest),
-    }
-}
-
-// The line that stands from one place to another, read in a section: its label and what it says.
-pub fn line_of(names: &Names, text: &[u8], section: Section, at: usize, end: usize) -> Line
-    requires { ⌜ (at ≤ end) × (end ≤ length (now text)) × DirectiveNames (now names) ⌝ }
-    ensures { λ r. ⌜ r ≡ lineCode (lineOf section (lineAt (now (text .entry)) at end)) ⌝ }
-{
-    parsed(names, text, section, statement_part(text, at, end))
+    let parted = part_label(text, part, mark);
+    let label = parted.label;
+    let says = unlabelled(names, text, section, parted.rest, parted.from);
+    Line { label, says }
 }

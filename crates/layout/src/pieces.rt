@@ -1,18 +1,16 @@
 // Parts of the text, by where they stand in it.
 use numbers::text::Span;
-use numbers::text::find;
 use numbers::text::is_space;
 use numbers::text::span_bytes;
-use numbers::text::statement_span;
 use numbers::text::trim_span;
 ghost use mathlib.Core.Path.{_≡_};
-ghost use Prim.Native.Nat.{_+_, _≤_};
-ghost use lib.ListN.{length, take, drop};
-ghost use Rattle.numbers.specs.Text.{isSpace, indexOf};
+ghost use Prim.Native.Nat.{_≤_};
+ghost use lib.ListN.{length, take};
+ghost use Rattle.numbers.specs.Text.{isSpace};
 ghost use Rattle.numbers.specs.code.Spans.{spanned};
-ghost use Rattle.layout.specs.Pieces.{piece, trimPiece, fromByte, statementOf};
+ghost use Rattle.layout.specs.Pieces.{piece, trimPiece, fromByte};
 ghost use Rattle.layout.specs.Bytes.{countBefore};
-ghost use Rattle.layout.specs.code.Spans.{spanOf, pieceAt, lineAt};
+ghost use Rattle.layout.specs.code.Spans.{spanOf, pieceAt};
 
 // A part without the white space at its ends.
 fn trim_part(text: &[u8], part: Span) -> Span
@@ -62,26 +60,6 @@ pub fn trim_from(text: &[u8], part: Span, n: usize) -> Span
     ensures { λ r. ⌜ r ≡ spanOf (trimPiece (fromByte n (pieceAt (now (text .entry)) part))) ⌝ }
 {
     trim_part(text, part_from(text, part, n))
-}
-
-// Where the line that starts at a place ends: at its LF, or where the text does.
-pub fn line_end(text: &[u8], at: usize) -> usize
-    requires { ⌜ at ≤ length (now text) ⌝ }
-    ensures { λ r. ⌜ r ≡ at + indexOf 10 (drop at (now (text .entry))) ⌝ }
-{
-    at + find(&text[at..], b'\n')
-}
-
-// The statement of the line that stands from a place to another.
-pub fn statement_part(text: &[u8], at: usize, end: usize) -> Span
-    requires { ⌜ (at ≤ end) × (end ≤ length (now text)) ⌝ }
-    ensures { λ r. ⌜ r ≡ spanOf (statementOf (lineAt (now (text .entry)) at end)) ⌝ }
-{
-    let inner = statement_span(&text[at..end]);
-    Span {
-        start: at + inner.start,
-        len: inner.len,
-    }
 }
 
 // How many bytes stand before the first white space.

@@ -6,6 +6,7 @@ use numbers::ints::in_signed12;
 use numbers::operands::Operand;
 use numbers::operands::item_operand_at;
 use numbers::table::ROW;
+use numbers::table::SLOTS;
 use numbers::table::word_in;
 use numbers::text::Span;
 use numbers::text::first_is;
@@ -39,42 +40,40 @@ pub enum LineKind {
 
 const COUNT: usize = 20;
 
-pub type Names = [u8; COUNT * ROW];
+// The columns: what a row's name is (`kind_numbered`), and whether it may end the line.
+const KIND: usize = 14;
 
-// A constant is built anew where it is used: the names are made once a call, and lent down.
+const BARE: usize = 15;
+
+pub type Names = [u8; COUNT * ROW + SLOTS];
+
+// A constant is built anew where it is used: the table is made once a call, and lent down. Behind the rows, the entry of
+// slot (first byte + 3 * last byte + 5 * length) % 64 is the row whose name has that slot, and 255 where none has it.
 pub const NAMES: Names = *b"\
-    li              \
-    la              \
-    push            \
-    pop             \
-    print           \
-    print_str       \
-    printStr        \
-    printString     \
-    print_str_ln    \
-    printStrLn      \
-    read            \
-    read_byte       \
-    readByte        \
-    read_half       \
-    readHalf        \
-    read_word       \
-    readWord        \
-    random          \
-    random_bytes    \
-    randomBytes     ";
-
-// The row of each name's slot; 255 where no name has it.
-const SLOTS: [u8; 64] = *b"\
+    li            \x01\x00\
+    la            \x02\x00\
+    push          \x03\x00\
+    pop           \x04\x00\
+    print         \x05\x01\
+    print_str     \x06\x01\
+    printStr      \x06\x01\
+    printString   \x06\x01\
+    print_str_ln  \x00\x01\
+    printStrLn    \x00\x01\
+    read          \x07\x01\
+    read_byte     \x08\x01\
+    readByte      \x08\x01\
+    read_half     \x00\x01\
+    readHalf      \x00\x01\
+    read_word     \x00\x01\
+    readWord      \x00\x01\
+    random        \x09\x01\
+    random_bytes  \x00\x00\
+    randomBytes   \x00\x00\
     \xff\xff\x13\xff\xff\xff\x10\x12\xff\x0c\xff\x0f\x0e\xff\x0b\x03\
     \xff\x0d\xff\xff\xff\xff\xff\x11\xff\x01\xff\xff\x07\xff\xff\xff\
     \xff\xff\xff\xff\xff\x04\xff\xff\xff\xff\xff\xff\x09\xff\x06\xff\
     \xff\x00\x0a\x05\xff\xff\x08\xff\xff\xff\xff\xff\x02\xff\xff\xff";
-
-// Beside each name its kind (`kind_numbered`), and whether it may end the line.
-const KINDS: [u8; COUNT] = [1, 2, 3, 4, 5, 6, 6, 6, 0, 0, 7, 8, 8, 0, 0, 0, 0, 9, 0, 0];
-
-const BARE: [u8; COUNT] = [0, 0, 0, 0, 1, 1, 1, 1, 1, 1, 1, 1, 1, 1, 1, 1, 1, 1, 0, 0];
 
 // What a number in a row says: an item's kind, or 0 for one of the four others.
 fn kind_numbered(kind: u8, source: Span) -> LineKind
@@ -108,14 +107,15 @@ fn listed_kind(names: &Names, text: &[u8], source: Span) -> LineKind
 {
     let s = span_bytes(text, source);
     let word = text_before(s, b' ');
-    let row = word_in(names, &SLOTS, COUNT, word);
+    let row = word_in(names, COUNT, word);
     if COUNT <= row {
         return LineKind::Instr(source);
     }
-    if (s.len() <= word.len()) & (BARE[row] == 0) {
+    let at = row * ROW;
+    if (s.len() <= word.len()) & (names[at + BARE] == 0) {
         return LineKind::Instr(source);
     }
-    kind_numbered(KINDS[row], source)
+    kind_numbered(names[at + KIND], source)
 }
 
 pub fn kind_of(names: &Names, text: &[u8], source: Span) -> LineKind

@@ -1,7 +1,6 @@
 // The line stage: labels, equates, items, data and bss, line by line.
 use crate::bss::bss_line;
-use crate::data::reserve_line;
-use crate::data::store_line;
+use crate::data::data_line;
 use crate::directives;
 use crate::equates::add_equate;
 use crate::items::text_line;
@@ -10,8 +9,9 @@ use crate::limits::Room;
 use crate::line::OwnStatement;
 use crate::line::Statement;
 use crate::line::line_of;
-use crate::pieces::line_end;
 use crate::pseudo;
+use crate::scan::Cut;
+use crate::scan::cut_line;
 use crate::state::Count;
 use crate::state::Counters;
 use crate::state::DataStep;
@@ -32,7 +32,8 @@ ghost use Rattle.layout.specs.State.{start};
 ghost use Rattle.layout.specs.Stage.{ownLine, says, stepLine, lineStage};
 ghost use Rattle.layout.specs.code.Kinds.{PseudoNames};
 ghost use Rattle.layout.specs.code.Rows.{DirectiveNames};
-ghost use Rattle.layout.specs.code.Spans.{lineAt, ownAt, statementAt, OwnWithin, StatementWithin, LineIn};
+ghost use Rattle.layout.specs.code.Cuts.{cutLine, LineCut};
+ghost use Rattle.layout.specs.code.Spans.{ownAt, statementAt, OwnWithin, StatementWithin, LineIn};
 ghost use Rattle.layout.specs.code.Lent.{OwnReady, OwnSteps, RestReady, RestSteps, StageReady, StageSteps, StageStarts, StageGives};
 
 // What the stage comes to: where the layout is at the end, or a refusal's number and line.
@@ -80,35 +81,15 @@ fn own_line(
             }),
             ItemStep::Stop(n) => OwnStep::Stop(n),
         },
-        OwnStatement::Stores(what, rest) => {
-            match store_line(
+        OwnStatement::InData(source, rest) => {
+            match data_line(
                 text,
                 data_bytes,
                 label_words,
                 room,
                 stored,
                 line,
-                what,
-                rest,
-            ) {
-                DataStep::Now(stored) => OwnStep::Now(OwnCounters {
-                    section,
-                    items: counted,
-                    stored,
-                    bss,
-                }),
-                DataStep::Stop(n) => OwnStep::Stop(n),
-            }
-        }
-        OwnStatement::Reserves(what, rest) => {
-            match reserve_line(
-                text,
-                data_bytes,
-                label_words,
-                room,
-                stored,
-                line,
-                what,
+                source,
                 rest,
             ) {
                 DataStep::Now(stored) => OwnStep::Now(OwnCounters {
@@ -186,14 +167,14 @@ fn says(
     }
 }
 
-// The line that stands from one place to another: its label first. Directives and pseudos are the rows of their names.
+// A line as it was cut: its label first. Directives and pseudos are the rows of their names.
 fn step_line(
     directives: &directives::Names,
     pseudos: &pseudo::Names,
     text: &[u8],
-    at: usize,
-    end: usize,
+    cut: Cut,
     labels: &mut [u8],
+    index: &mut [u16],
     equates: &mut [u8],
     exprs: &mut [u8],
     items: &mut [u8],
@@ -203,19 +184,28 @@ fn step_line(
     st: Counters,
     line: u32,
 ) -> Step
-    requires { ⌜ StageReady text labels equates exprs items «data_bytes» «label_words» room st
-        × LineIn (now text) line × (at ≤ end) × (end ≤ length (now text))
+    requires { ⌜ StageReady text labels index equates exprs items «data_bytes» «label_words» room st
+        × LineIn (now text) line × LineCut (now text) cut
         × DirectiveNames (now directives) × PseudoNames (now pseudos) ⌝ }
-    ensures { λ r. ⌜ StageSteps text labels equates exprs items «data_bytes» «label_words» room st r
-        (stepLine room line (lineAt (now (text .entry)) at end)) ⌝ }
+    ensures { λ r. ⌜ StageSteps text labels index equates exprs items «data_bytes» «label_words» room st r
+        (stepLine room line (cutLine (now (text .entry)) cut)) ⌝ }
 {
     let rest = st.rest;
     let own = rest.own;
     let section = own.section;
-    let parsed = line_of(directives, text, section, at, end);
+    let parsed = line_of(directives, text, section, cut.part, cut.mark);
     let label = parsed.label;
     let statement = parsed.says;
-    match label_step(text, labels, room, st.labels, own.place(), line, label) {
+    match label_step(
+        text,
+        labels,
+        index,
+        room,
+        st.labels,
+        own.place(),
+        line,
+        label,
+    ) {
         Count::Now(count) => match says(
             pseudos,
             text,
@@ -239,10 +229,11 @@ fn step_line(
     }
 }
 
-// Every line of the text, into buffers of zeros.
+// Every line of the text, into buffers of zeros. A line without a statement changes nothing.
 pub fn line_stage(
     text: &[u8],
     labels: &mut [u8],
+    index: &mut [u16],
     equates: &mut [u8],
     exprs: &mut [u8],
     items: &mut [u8],
@@ -250,8 +241,8 @@ pub fn line_stage(
     label_words: &mut [u8],
     room: Room,
 ) -> Stage
-    requires { ⌜ (length (now text) ≤ textLimit) × StageStarts text labels equates exprs items «data_bytes» «label_words» room ⌝ }
-    ensures { λ r. ⌜ StageGives text labels equates exprs items «data_bytes» «label_words» room r
+    requires { ⌜ (length (now text) ≤ textLimit) × StageStarts text labels index equates exprs items «data_bytes» «label_words» room ⌝ }
+    ensures { λ r. ⌜ StageGives text labels index equates exprs items «data_bytes» «label_words» room r
         (lineStage room 0 (linePieces 0 (lines (now (text .entry)))) start) ⌝ }
 {
     let directives = directives::NAMES;
@@ -260,28 +251,31 @@ pub fn line_stage(
     let mut at = 0;
     let mut line: u32 = 0;
     while at < text.len() {
-        let end = line_end(text, at);
-        match step_line(
-            &directives,
-            &pseudos,
-            text,
-            at,
-            end,
-            labels,
-            equates,
-            exprs,
-            items,
-            data_bytes,
-            label_words,
-            room,
-            st,
-            line,
-        ) {
-            Step::Now(next) => {
-                st = next;
-            }
-            Step::Stop(n) => {
-                return Stage::Refused(n, line);
+        let cut = cut_line(text, at);
+        let end = cut.end;
+        if 0 < cut.part.len {
+            match step_line(
+                &directives,
+                &pseudos,
+                text,
+                cut,
+                labels,
+                index,
+                equates,
+                exprs,
+                items,
+                data_bytes,
+                label_words,
+                room,
+                st,
+                line,
+            ) {
+                Step::Now(next) => {
+                    st = next;
+                }
+                Step::Stop(n) => {
+                    return Stage::Refused(n, line);
+                }
             }
         }
         at = end + 1;

@@ -127,6 +127,7 @@ fn source_agrees(text: &[u8], base: u32, answer: &[u8]) -> bool {
         return false;
     }
     let mut labels = [0u8; 16384];
+    let mut index = [0u16; 2048];
     let mut equates = [0u8; 6144];
     let mut exprs = [0u8; 4096];
     let mut items = [0u8; 49152];
@@ -136,6 +137,7 @@ fn source_agrees(text: &[u8], base: u32, answer: &[u8]) -> bool {
     match line_stage(
         text,
         &mut labels,
+        &mut index,
         &mut equates,
         &mut exprs,
         &mut items,

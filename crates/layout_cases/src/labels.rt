@@ -5,14 +5,13 @@ use crate::listed::next_part;
 use crate::listed::part_at;
 use crate::places::Starts;
 use crate::records::word_at;
-use layout::labels::Lookup;
-use layout::labels::find_label;
 use layout::limits::LABEL_SIZE;
 use layout::limits::LABEL_WORD_SIZE;
 use layout::records::get_label;
 use layout::records::get_label_word;
 use layout::records::put_u32;
 use numbers::text::Span;
+use numbers::text::same_bytes;
 use numbers::text::span_bytes;
 use numbers::text::text_before;
 use replay::field::decode;
@@ -26,17 +25,22 @@ enum Label {
 
 // The label of that name among so many.
 fn label_named(text: &[u8], labels: &[u8], count: usize, name: &[u8]) -> Label {
-    if labels.len() / LABEL_SIZE < count {
-        return Label::Nothing;
+    let mut k = 0;
+    while k < count {
+        if labels.len() / LABEL_SIZE <= k {
+            return Label::Nothing;
+        }
+        let label = get_label(labels, k);
+        let place = Span {
+            start: label.start as usize,
+            len: label.len as usize,
+        };
+        if same_bytes(span_bytes(text, place), name) {
+            return Label::At(label.address, label.line);
+        }
+        k += 1;
     }
-    let Lookup::At(k) = find_label(text, labels, count, name) else {
-        return Label::Nothing;
-    };
-    if labels.len() / LABEL_SIZE <= k {
-        return Label::Nothing;
-    }
-    let label = get_label(labels, k);
-    Label::At(label.address, label.line)
+    Label::Nothing
 }
 
 // A label of the list: its name, its address and its line.

@@ -2,7 +2,7 @@
 use Prim.Native.Nat.{ℕ, suc, _+_, _-_, _≤_, _<_}
 use mathlib.Core.Path.{_∙_, _≡_, ap, refl, sym}
 use mathlib.Core.List.{List, [], _∷_, _++_}
-use mathlib.Core.Bool.{Bool, true, false, _||_, false≢true, and-false, and-true}
+use mathlib.Core.Bool.{Bool, true, false, _&&_, _||_, false≢true, and-false, and-true}
 use native.Mathlib.Nat.{le-of-suc-le-suc}
 use native.Mathlib.Numerals.{add-one}
 use native.Mathlib.Omega.{arith}
@@ -115,3 +115,10 @@ pub longer-prefix : (b : ℕ) (p s : List ℕ) → startsWith (b ∷ []) s ≡ f
 unfolding startsWith
 longer-prefix b p [] e = refl
 longer-prefix b p (x ∷ xs) e = rw (sym (and-true (eqb x b)) ∙ e) refl
+
+-- two bytes as the prefix: the first two
+pub two-bytes : (b c : ℕ) (s : List ℕ) → 2 ≤ length s → startsWith (b ∷ c ∷ []) s ≡ eqb (getD s 0 0) b && eqb (getD s 1 0) c
+unfolding startsWith
+two-bytes b c [] h = absurd (omega arith)
+two-bytes b c (x ∷ []) h = absurd (omega arith)
+two-bytes b c (x ∷ y ∷ ys) h = rw (and-true (eqb y c)) refl

@@ -10,12 +10,13 @@ use lib.Dec.{leb, ltb, eqb}
 use lib.ListN.{length, drop}
 use lib.IntN.{ℤ, pos}
 use borrow.Author.Tests.{eqb-true, leb-true, ne-eqb, lt-leb, le-ltb}
-use Rattle.numbers.specs.Text.{text, isSpace, trimmed, startsWith, same, spaceFirst, consSome, oneSpaced}
+use Rattle.numbers.specs.Text.{text, isSpace, trimStart, consTrimmed, trimEnd, trimmed, startsWith, same, spaceFirst, consSome, oneSpaced}
 use Rattle.numbers.specs.Numbers.{digitOf, allDigits, digitsFrom, digitsOf, positiveOf, negativeOf, signedDigits, prefixed, negated, outerSigned, numberOf}
 use Rattle.numbers.specs.Numbers.{literalOf, imm64Of, narrowed, immOf, spacedImmOf}
 use Rattle.numbers.specs.Literals.{escaped, charLitOf}
 use Rattle.numbers.specs.Registers.{Named, abiNames, numberIn, lowerCase, xNumber, bareRegister, registerOf}
-use Rattle.numbers.proofs.Bools.{or-left, or-right, or-none, and-left, and-right, and-both}
+use Rattle.numbers.proofs.Bools.{none-some, or-left, or-right, or-none, and-left, and-right, and-both}
+use Rattle.numbers.proofs.Trims.{start-stays}
 use Rattle.numbers.proofs.Prefixes.{same-equal}
 use Rattle.numbers.proofs.Values.{none-below}
 use Rattle.numbers.proofs.Spaced.{spaced-other, trimmed-spaced}
@@ -146,6 +147,29 @@ outer-space s h = go (startsWith (text "-") s) refl (startsWith (text "+") s) re
     go true e u f = rw (prefixed-space (drop 1 s) (after-prefix (text "-") s refl e h)) refl
     go false e true f = prefixed-space (drop 1 s) (after-prefix (text "+") s refl f h)
     go false e false f = prefixed-space s h
+
+-- a text without white space stays when trimmed
+plain-end : (s : List ℕ) → hasSpace s ≡ false → trimEnd s ≡ s
+unfolding hasSpace trimEnd
+plain-end [] e = refl
+plain-end (x ∷ xs) e = rw (plain-end xs (or-right (isSpace x) (hasSpace xs) e)) (go xs)
+  where
+    go : (r : List ℕ) → consTrimmed x r ≡ x ∷ r
+    go [] = rw (or-left (isSpace x) (hasSpace xs) e) refl
+    go (y ∷ ys) = refl
+
+plain-trimmed : (s : List ℕ) → hasSpace s ≡ false → trimmed s ≡ s
+unfolding trimmed trimStart hasSpace
+plain-trimmed [] e = plain-end [] e
+plain-trimmed (x ∷ xs) e = ap trimEnd (start-stays (x ∷ xs) (or-left (isSpace x) (hasSpace xs) e)) ∙ plain-end (x ∷ xs) e
+
+-- so does a number
+pub number-stays : (s : List ℕ) (z : ℤ) → outerSigned s ≡ some z → trimmed s ≡ s
+number-stays s z e = plain-trimmed s (go (hasSpace s) refl)
+  where
+    go : (t : Bool) → hasSpace s ≡ t → t ≡ false
+    go true h = absurd (none-some (sym (outer-space s h) ∙ e))
+    go false h = refl
 
 -- in lowerCase case white space stays
 lower-space : (s : List ℕ) → hasSpace s ≡ true → hasSpace (map lowerCase s) ≡ true

@@ -1,10 +1,10 @@
 -- Digits and their values: what a byte is worth, one digit more, the limit, and what a number that was read lies within.
-use Prim.Native.Nat.{ℕ, _+_, _-_, _*_, _/_, _≤_, _<_}
+use Prim.Native.Nat.{ℕ, suc, _+_, _-_, _*_, _/_, _^_, _≤_, _<_}
 use mathlib.Core.Path.{_≡_, refl, sym, _∙_}
 use mathlib.Core.List.{List, [], _∷_}
 use mathlib.Core.Bool.{Bool, true, false, cond, _&&_, and-false}
 use mathlib.Core.Option.{none, some}
-use native.Mathlib.Nat.{le-refl, le-trans, le-mul-of-pos-right, le-div-iff-mul-le, div-lt-iff-lt-mul, lt-of-lt-of-le}
+use native.Mathlib.Nat.{le-refl, le-trans, le-mul-of-pos-right, mul-le-mul-left, mul-le-mul-right, pow-suc, pow-le-pow-right, le-div-iff-mul-le, div-lt-iff-lt-mul, lt-of-lt-of-le}
 use native.Mathlib.Numerals.{add-one}
 use native.Mathlib.Omega.{arith}
 use lib.Dec.{leb}
@@ -57,15 +57,19 @@ value-grows base v (x ∷ xs) h =
     le-trans (omega arith) (value-grows base (v * base + digitOf x) xs h)
 
 -- past the limit nothing is read
-past-limit : (base limit v : ℕ) (l : List ℕ) → 0 < base → limit < v → digitsFrom base limit v l ≡ none
+pub past-limit : (base limit v : ℕ) (l : List ℕ) → 0 < base → limit < v → digitsFrom base limit v l ≡ none
 unfolding digitsFrom
 past-limit base limit v l h k = rw (lt-leb _ _ (lt-of-lt-of-le k (value-grows base v l h)), and-false (allDigits base l)) refl
+
+-- a digit d, after digits of the value v and before others
+pub digit-more : (base limit v x : ℕ) (xs : List ℕ) (d : ℕ) → d ≡ digitOf x → d < base → digitsFrom base limit (v * base + d) xs ≡ digitsFrom base limit v (x ∷ xs)
+unfolding digitsFrom allDigits valueFrom
+digit-more base limit v x xs d e k = rw e (rw (lt-ltb _ _ (rw e at k)) refl)
 
 -- the byte at i of s, whose digit is d, after digits of the value v
 module _ (base limit v : ℕ) (s : List ℕ) (i d : ℕ) (h : i < length s) (e : d ≡ digitOf (getD s i 0)) where
   pub one-more : d < base → digitsFrom base limit (v * base + d) (drop (i + 1) s) ≡ digitsFrom base limit v (drop i s)
-  unfolding digitsFrom allDigits valueFrom
-  one-more k = rw (add-one, drop-cons s i 0 h, e) (rw (lt-ltb _ _ (rw e at k)) refl)
+  one-more k = rw (add-one, drop-cons s i 0 h) (digit-more base limit v (getD s i 0) _ d e k)
 
   pub no-digit : base ≤ d → digitsFrom base limit v (drop i s) ≡ none
   unfolding digitsFrom allDigits valueFrom
@@ -73,6 +77,15 @@ module _ (base limit v : ℕ) (s : List ℕ) (i d : ℕ) (h : i < length s) (e :
 
   pub too-large : 0 < base → d < base → limit < v * base + d → digitsFrom base limit v (drop i s) ≡ none
   too-large z k g = sym (one-more k) ∙ past-limit base limit (v * base + d) (drop (i + 1) s) z g
+
+-- a value below a power of 16 is below the next one with a digit more, and 15 digits are below 2^60
+pub digit-below : (base v i d : ℕ) → base ≤ 16 → v < 16 ^ i → d < base → v * base + d < 16 ^ (i + 1)
+digit-below base v i d b h k =
+    let power : 16 ^ (i + 1) ≡ 16 ^ i * 16 = rw (add-one i) (pow-suc 16 i) in
+    omega (arith, power, mul-le-mul-left v b, mul-le-mul-right 16 h)
+
+pub few-below : (i : ℕ) → i ≤ 15 → 16 ^ i ≤ 2 ^ 60
+few-below i h = pow-le-pow-right {n = 16} (omega arith) h
 
 -- the test before the product: above the limit's quotient the product is above the limit, else it is not
 pub quotient-above : (base limit v d : ℕ) → 0 < base → limit / base < v → limit < v * base + d
@@ -90,7 +103,7 @@ unfolding digitsOf
 digits-none base limit [] h = refl
 digits-none base limit (x ∷ xs) h = absurd (omega arith)
 
-pub digits-start : (base limit : ℕ) (s : List ℕ) → (length s ≡ 0 → ⊥) → digitsFrom base limit 0 (drop 0 s) ≡ digitsOf base limit s
+pub digits-start : (base limit : ℕ) (s : List ℕ) → (length s ≡ 0 → ⊥) → digitsFrom base limit 0 s ≡ digitsOf base limit s
 unfolding digitsOf
 digits-start base limit [] h = absurd (h refl)
 digits-start base limit (x ∷ xs) h = refl
@@ -105,3 +118,13 @@ digits-within base limit (x ∷ xs) n e = go (allDigits base (x ∷ xs)) (valueF
     go true v true k q = let h : v ≡ n = cc in omega (arith, leb-true v limit k)
     go true v false k q = absurd (none-some q)
     go false v u k q = absurd (none-some q)
+
+-- what is read is one digit or more
+pub digits-all : (base limit : ℕ) (s : List ℕ) (n : ℕ) → digitsOf base limit s ≡ some n → (0 < length s) × (allDigits base s ≡ true)
+unfolding digitsOf digitsFrom
+digits-all base limit [] n e = absurd (none-some e)
+digits-all base limit (x ∷ xs) n e = go (allDigits base (x ∷ xs)) e
+  where
+    go : (t : Bool) → cond (t && leb (valueFrom base 0 (x ∷ xs)) limit) (some (valueFrom base 0 (x ∷ xs))) none ≡ some n → (0 < suc (length xs)) × (t ≡ true)
+    go true q = (omega arith, refl)
+    go false q = absurd (none-some q)

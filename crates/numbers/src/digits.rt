@@ -1,7 +1,8 @@
 // Digits in base 2, 10 and 16, with a limit.
 ghost use mathlib.Core.Path.{_≡_};
-ghost use Prim.Native.Nat.{_/_};
-ghost use Rattle.numbers.specs.Numbers.{digitOf, digitsOf};
+ghost use Prim.Native.Nat.{_/_, _≤_};
+ghost use lib.ListN.{length};
+ghost use Rattle.numbers.specs.Numbers.{digitOf, digitsFrom, digitsOf};
 ghost use Rattle.numbers.specs.code.Meanings.{baseOf, digitsValue};
 
 pub enum Radix {
@@ -11,7 +12,7 @@ pub enum Radix {
 }
 
 impl Radix {
-    fn base(self) -> u64
+    pub fn base(self) -> u64
         ensures { λ r. ⌜ r ≡ baseOf self ⌝ }
     {
         match self {
@@ -51,13 +52,32 @@ pub fn digit(b: u8) -> u64
     }
 }
 
-// The value of s, where s is one digit or more, nothing else, and the value is at most the limit.
-pub fn parse_digits(s: &[u8], radix: Radix, limit: u64) -> Digits
-    ensures { λ r. ⌜ digitsValue r ≡ digitsOf (baseOf radix) limit (now (s .entry)) ⌝ }
+// The value of at most 15 digits, which 64 bits hold in each base: the limit is compared once, at the end.
+fn short_digits(s: &[u8], radix: Radix, limit: u64) -> Digits
+    requires { ⌜ length (now s) ≤ 15 ⌝ }
+    ensures { λ r. ⌜ digitsValue r ≡ digitsFrom (baseOf radix) limit 0 (now (s .entry)) ⌝ }
 {
-    if s.len() == 0 {
+    let base = radix.base();
+    let mut value: u64 = 0;
+    let mut i = 0;
+    while i < s.len() {
+        let d = digit(s[i]);
+        if base <= d {
+            return Digits::Invalid;
+        }
+        value = value * base + d;
+        i += 1;
+    }
+    if limit < value {
         return Digits::Invalid;
     }
+    Digits::Value(value)
+}
+
+// The value of any digits: each is compared with what the limit leaves.
+fn long_digits(s: &[u8], radix: Radix, limit: u64) -> Digits
+    ensures { λ r. ⌜ digitsValue r ≡ digitsFrom (baseOf radix) limit 0 (now (s .entry)) ⌝ }
+{
     let base = radix.base();
     let most = radix.quotient(limit);
     let mut value: u64 = 0;
@@ -78,4 +98,17 @@ pub fn parse_digits(s: &[u8], radix: Radix, limit: u64) -> Digits
         i += 1;
     }
     Digits::Value(value)
+}
+
+// The value of s, where s is one digit or more, nothing else, and the value is at most the limit.
+pub fn parse_digits(s: &[u8], radix: Radix, limit: u64) -> Digits
+    ensures { λ r. ⌜ digitsValue r ≡ digitsOf (baseOf radix) limit (now (s .entry)) ⌝ }
+{
+    if s.len() == 0 {
+        return Digits::Invalid;
+    }
+    if s.len() <= 15 {
+        return short_digits(s, radix, limit);
+    }
+    long_digits(s, radix, limit)
 }

@@ -12,12 +12,12 @@ use crate::ints::widened;
 use crate::literals::parse_char_lit;
 use crate::text::first_is;
 use crate::text::same_one_spaced;
-use crate::text::starts_with;
 use crate::text::trim;
 ghost use mathlib.Core.Path.{_≡_};
 ghost use Prim.Native.Nat.{_-_, _^_};
 ghost use Rattle.numbers.specs.Numbers.{digitsOf, positiveOf, negativeOf, signedDigits, prefixed, negated};
 ghost use Rattle.numbers.specs.code.Meanings.{baseOf, immValue, imm64Value};
+ghost use Rattle.numbers.specs.code.Starts.{afterSign, prefixOf, digitFirst};
 ghost use Rattle.numbers.specs.Numbers.{outerSigned, numberOf, imm64Of, immOf, spacedImmOf};
 
 // Digits without a sign, or after a plus.
@@ -43,6 +43,16 @@ fn negative(s: &[u8], radix: Radix) -> Imm64
     Imm64::Value(-1 - ((n - 1) as i64))
 }
 
+// A text without the sign that it begins with.
+fn after_sign(s: &[u8]) -> &[u8]
+    ensures { λ r. ⌜ now r ≡ afterSign (now (s .entry)) ⌝ }
+{
+    if first_is(s, b'-') | first_is(s, b'+') {
+        return &s[1..];
+    }
+    s
+}
+
 // Digits with a sign of their own or without.
 fn signed_digits(digits: &[u8], radix: Radix) -> Imm64
     ensures { λ r. ⌜ imm64Value r ≡ signedDigits (baseOf radix) (now (digits .entry)) ⌝ }
@@ -50,52 +60,90 @@ fn signed_digits(digits: &[u8], radix: Radix) -> Imm64
     if first_is(digits, b'-') {
         return negative(&digits[1..], radix);
     }
-    if first_is(digits, b'+') {
-        return positive(&digits[1..], radix);
+    positive(after_sign(digits), radix)
+}
+
+// A number's base, and how many bytes say it.
+struct Prefix {
+    radix: Radix,
+    len: usize,
+}
+
+fn prefix_of(s: &[u8]) -> Prefix
+    ensures { λ r. ⌜ r ≡ prefixOf (now (s .entry)) ⌝ }
+{
+    if s.len() < 2 {
+        return Prefix {
+            radix: Radix::Decimal,
+            len: 0,
+        };
     }
-    positive(digits, radix)
+    let zero = s[0] == b'0';
+    let b = s[1];
+    if zero & ((b == b'x') | (b == b'X')) {
+        return Prefix {
+            radix: Radix::Hex,
+            len: 2,
+        };
+    }
+    if zero & ((b == b'b') | (b == b'B')) {
+        return Prefix {
+            radix: Radix::Binary,
+            len: 2,
+        };
+    }
+    Prefix {
+        radix: Radix::Decimal,
+        len: 0,
+    }
 }
 
 // A number after its outer sign.
 fn prefixed_number(s: &[u8]) -> Imm64
     ensures { λ r. ⌜ imm64Value r ≡ prefixed (now (s .entry)) ⌝ }
 {
-    if !first_is(s, b'0') {
-        return signed_digits(s, Radix::Decimal);
-    }
-    if starts_with(s, b"0x") | starts_with(s, b"0X") {
-        return signed_digits(&s[2..], Radix::Hex);
-    }
-    if starts_with(s, b"0b") | starts_with(s, b"0B") {
-        return signed_digits(&s[2..], Radix::Binary);
-    }
-    signed_digits(s, Radix::Decimal)
+    let prefix = prefix_of(s);
+    let radix = prefix.radix;
+    let start = prefix.len;
+    signed_digits(&s[start..], radix)
 }
 
-// A number after a minus.
-fn negated_number(s: &[u8]) -> Imm64
-    ensures { λ r. ⌜ imm64Value r ≡ negated (prefixed (now (s .entry))) ⌝ }
+// A number with a minus before it.
+fn negated_number(n: Imm64) -> Imm64
+    ensures { λ r. ⌜ imm64Value r ≡ negated (imm64Value n) ⌝ }
 {
-    let Imm64::Value(v) = prefixed_number(s) else {
+    let Imm64::Value(v) = n else {
         return Imm64::Invalid;
     };
-    let Checked::Fits(n) = checked_neg(v) else {
+    let Checked::Fits(w) = checked_neg(v) else {
         return Imm64::Invalid;
     };
-    Imm64::Value(n)
+    Imm64::Value(w)
 }
 
-// A number without white space around it.
+// Is the first byte a digit other than 0?
+fn first_digit(s: &[u8]) -> bool
+    ensures { λ r. ⌜ r ≡ digitFirst (now (s .entry)) ⌝ }
+{
+    if s.len() == 0 {
+        return false;
+    }
+    (b'1' <= s[0]) & (s[0] <= b'9')
+}
+
+// A number without white space around it. Most are decimal digits and nothing else. What reads the others is called at one place
+// each, so that it is compiled into this function: slices and answers that are handed over in memory take longer than the digits.
 fn trimmed_number(s: &[u8]) -> Imm64
     ensures { λ r. ⌜ imm64Value r ≡ outerSigned (now (s .entry)) ⌝ }
 {
+    if first_digit(s) {
+        return positive(s, Radix::Decimal);
+    }
+    let n = prefixed_number(after_sign(s));
     if first_is(s, b'-') {
-        return negated_number(&s[1..]);
+        return negated_number(n);
     }
-    if first_is(s, b'+') {
-        return prefixed_number(&s[1..]);
-    }
-    prefixed_number(s)
+    n
 }
 
 // A number, but no character literal: what an expression's number is.

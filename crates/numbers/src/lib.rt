@@ -7,5 +7,6 @@ pub mod ints;
 pub mod literals;
 pub mod operands;
 pub mod registers;
+pub mod short;
 pub mod table;
 pub mod text;

@@ -1,7 +1,8 @@
 // White space, trimming, the comment cut, prefixes and names, on slices and spans.
 ghost use mathlib.Core.Path.{_≡_};
-ghost use Prim.Native.Nat.{_<_};
+ghost use Prim.Native.Nat.{_+_, _*_, _/_, _≤_, _<_};
 ghost use mathlib.Core.List.{[], _∷_};
+ghost use lib.Dec.{ltb};
 ghost use lib.ListN.{length, drop};
 ghost use Rattle.numbers.specs.Text.{isSpace, trimEnd, trimmed, indexOf, before, uncommented};
 ghost use Rattle.numbers.specs.Text.{leadingSpaces};
@@ -95,6 +96,52 @@ pub fn find(s: &[u8], b: u8) -> usize
         i += 1;
     }
     i
+}
+
+// What `find` answers, looked for from a place on before which no b stands.
+pub fn find_from(s: &[u8], from: usize, b: u8) -> usize
+    requires { ⌜ from ≤ indexOf b (now s) ⌝ }
+    ensures { λ r. ⌜ r ≡ indexOf b (now (s .entry)) ⌝ }
+{
+    from + find(&s[from..], b)
+}
+
+// Is b one of the four bytes from a place on?
+fn in_four(s: &[u8], at: usize, b: u8) -> bool
+    requires { ⌜ at + 4 ≤ length (now s) ⌝ }
+    ensures { λ r. ⌜ r ≡ ltb (indexOf b (drop at (now (s .entry)))) 4 ⌝ }
+{
+    ((s[at] == b) | (s[at + 1] == b)) | ((s[at + 2] == b) | (s[at + 3] == b))
+}
+
+// Is b one of the sixteen bytes from a place on? No branch stands between the comparisons, so that they become one of
+// sixteen bytes at once.
+pub fn in_sixteen(s: &[u8], at: usize, b: u8) -> bool
+    requires { ⌜ at + 16 ≤ length (now s) ⌝ }
+    ensures { λ r. ⌜ r ≡ ltb (indexOf b (drop at (now (s .entry)))) 16 ⌝ }
+{
+    (in_four(s, at, b) | in_four(s, at + 4, b)) | (in_four(s, at + 8, b) | in_four(s, at + 12, b))
+}
+
+// How many bytes, in whole blocks of sixteen, stand before the first b.
+fn blocks_before(s: &[u8], b: u8) -> usize
+    ensures { λ r. ⌜ r ≡ indexOf b (now (s .entry)) / 16 * 16 ⌝ }
+{
+    let mut i = 0;
+    while 16 <= s.len() - i {
+        if in_sixteen(s, i, b) {
+            return i;
+        }
+        i += 16;
+    }
+    i
+}
+
+// What `find` answers, where b is likely to be far.
+pub fn find_far(s: &[u8], b: u8) -> usize
+    ensures { λ r. ⌜ r ≡ indexOf b (now (s .entry)) ⌝ }
+{
+    find_from(s, blocks_before(s, b), b)
 }
 
 // The text before the first b.

@@ -2,19 +2,34 @@
 use Prim.Native.Nat.{ℕ}
 use mathlib.Core.Path.{_≡_}
 use mathlib.Core.List.{List, map}
-use mathlib.Core.Bool.{Bool, _||_}
+use mathlib.Core.Bool.{Bool, true, cond, _||_}
 use mathlib.Core.Option.{Option, none, some}
+use lib.ListN.{length}
 use Rattle.numbers.specs.declared.text.Span.{Span}
 use Rattle.numbers.specs.Text.{text, startsWith}
-use Rattle.numbers.specs.code.Tables.{rows}
+use Rattle.numbers.specs.code.Tables.{rows, column, slotsBehind, slotted}
 use Rattle.layout.specs.declared.pseudo.Pseudo.{Pseudo}
 use Rattle.layout.specs.declared.pseudo.LineKind.{LineKind}
 use Rattle.layout.specs.declared.pseudo.LineKind.the-variants as kind
-use Rattle.layout.specs.Pseudos.{Item, ordinary, pseudo, other, pseudoKind, spellings}
+use Rattle.layout.specs.Pseudos.{Item, ordinary, pseudo, other, Spelling, pseudoKind, spellings}
 
--- rows that have the spellings' names
+-- what a spelling names, as a number in a row: as an item's record has it, and 0 for one of the four others; a row has no ordinary line
+abbrev pub itemNumber : Item → ℕ
+itemNumber ordinary = 10
+itemNumber (pseudo p) = pseudoKind p
+itemNumber other = 0
+
+-- a table that is lent: the names of xs, in the last two bytes of each row what it names and whether it may end the line, and behind the
+-- rows slots by which a word's row is found
+pub record SpellingTable (xs : List Spelling) (t : List ℕ) : Type 0 where
+  pub names : rows (length xs) t ≡ map (λ x. x .name) xs
+  pub kinds : column 14 (length xs) t ≡ map (λ x. itemNumber (x .item)) xs
+  pub bares : column 15 (length xs) t ≡ map (λ x. cond (x .bare) 1 0) xs
+  pub slots : slotted (slotsBehind (length xs) t) 0 (rows (length xs) t) ≡ true
+
+-- the table of all spellings
 abbrev pub PseudoNames : List ℕ → Type 0
-PseudoNames b = rows 20 b ≡ map (λ x. x .name) spellings
+PseudoNames t = SpellingTable spellings t
 
 -- the first letters of all spellings
 abbrev pub beginsAsPseudo : List ℕ → Bool
@@ -36,8 +51,8 @@ kindSource (kind.Instr s) = s
 kindSource (kind.Pseudo p s) = s
 kindSource (kind.Unsupported s) = s
 
--- a kind as a number in a row: as an item's record has it, and 0 for one of the four others; a row has no ordinary line
+-- a line's kind as the number in its row
 abbrev pub kindNumber : LineKind → ℕ
-kindNumber (kind.Instr s) = 10
-kindNumber (kind.Pseudo p s) = pseudoKind p
-kindNumber (kind.Unsupported s) = 0
+kindNumber (kind.Instr s) = itemNumber ordinary
+kindNumber (kind.Pseudo p s) = itemNumber (pseudo p)
+kindNumber (kind.Unsupported s) = itemNumber other

@@ -21,7 +21,8 @@ use Rattle.layout.specs.Refusals.{Refusal}
 use Rattle.layout.specs.State.{Label, Equate, LabelWord, Items, Stored, Own, Rest, State, start}
 use Rattle.layout.specs.code.Steps.{Some, Steps}
 use Rattle.layout.specs.code.Stands.{LabelsStand, EquatesStand, ItemsStand, LabelWordsStand, StoredStand, OwnStand, RestStand, Stands}
-use Rattle.layout.specs.code.Stands.{equateStore, dataStore, ownStore, restStore, Store, store, startCounters, StageAgrees}
+use Rattle.layout.specs.code.Stands.{labelStore, equateStore, dataStore, ownStore, restStore, Store, store}
+use Rattle.layout.specs.code.Stands.{startCounters, StageAgrees}
 use Rattle.layout.specs.code.Stands.{countOf, itemsOf, dataOf, ownOf, restOf, stepOf}
 
 -- bytes that are lent, and the same over a call
@@ -33,8 +34,8 @@ OverCall = Both Lent Lent
 
 -- ---- what is lent stands for something
 
-abbrev pub LabelsReady : Lent → Lent → Room → ℕ → Type 0
-LabelsReady t l k c = Some (LabelsStand (now t) k c (now l))
+abbrev pub LabelsReady : Lent → Lent → Lent → Room → ℕ → Type 0
+LabelsReady t l n k c = Some (LabelsStand (now t) k c (labelStore (now l) (now n)))
 
 abbrev pub EquatesReady : Lent → Lent → Lent → Room → ℕ → Type 0
 EquatesReady t e x k c = Some (EquatesStand (now t) k c (equateStore (now e) (now x)))
@@ -54,16 +55,18 @@ OwnReady t i d w k c = Some (OwnStand (now t) k c (ownStore (now i) (now d) (now
 abbrev pub RestReady : Lent → Lent → Lent → Lent → Lent → Lent → Room → RestCounters → Type 0
 RestReady t e x i d w k c = Some (RestStand (now t) k c (restStore (now e) (now x) (now i) (now d) (now w)))
 
-abbrev pub storeNow : Lent → Lent → Lent → Lent → Lent → Lent → Store
-storeNow l e x i d w = store (now l) (now e) (now x) (now i) (now d) (now w)
+abbrev pub storeNow : Lent → Lent → Lent → Lent → Lent → Lent → Lent → Store
+storeNow l n e x i d w = store (now l) (now n) (now e) (now x) (now i) (now d) (now w)
 
-abbrev pub StageReady : Lent → Lent → Lent → Lent → Lent → Lent → Lent → Room → Counters → Type 0
-StageReady t l e x i d w k c = Some (Stands (now t) k c (storeNow l e x i d w))
+abbrev pub StageReady : Lent → Lent → Lent → Lent → Lent → Lent → Lent → Lent → Room → Counters → Type 0
+StageReady t l n e x i d w k c = Some (Stands (now t) k c (storeNow l n e x i d w))
 
 -- ---- the answer r, with what is left in the buffers, is what f gives of what they stood for
 
-abbrev pub LabelsSteps : OverCall → OverCall → Room → ℕ → Count → (List Label → Result ℕ (List Label)) → Type 0
-LabelsSteps t l k c r f = Steps (LabelsStand (now (t .entry)) k) c (now (l .entry)) (countOf r) (now (l .exit)) f
+abbrev pub LabelsSteps : OverCall → OverCall → OverCall → Room → ℕ → Count → (List Label → Result ℕ (List Label)) → Type 0
+LabelsSteps t l n k c r f =
+    Steps (LabelsStand (now (t .entry)) k) c (labelStore (now (l .entry)) (now (n .entry)))
+    (countOf r) (labelStore (now (l .exit)) (now (n .exit))) f
 
 abbrev pub EquatesSteps : OverCall → OverCall → OverCall → Room → ℕ → Count → (List Equate → Result ℕ (List Equate)) → Type 0
 EquatesSteps t e x k c r f =
@@ -93,20 +96,20 @@ RestSteps t e x i d w k c r f =
     (restStore (now (e .entry)) (now (x .entry)) (now (i .entry)) (now (d .entry)) (now (w .entry)))
     (restOf r) (restStore (now (e .exit)) (now (x .exit)) (now (i .exit)) (now (d .exit)) (now (w .exit))) f
 
-abbrev pub StageSteps : OverCall → OverCall → OverCall → OverCall → OverCall → OverCall → OverCall → Room → Counters → Step
+abbrev pub StageSteps : OverCall → OverCall → OverCall → OverCall → OverCall → OverCall → OverCall → OverCall → Room → Counters → Step
     → (State → Result ℕ State) → Type 0
-StageSteps t l e x i d w k c r f =
-    Steps (Stands (now (t .entry)) k) c (storeNow (l .entry) (e .entry) (x .entry) (i .entry) (d .entry) (w .entry))
-    (stepOf r) (storeNow (l .exit) (e .exit) (x .exit) (i .exit) (d .exit) (w .exit)) f
+StageSteps t l n e x i d w k c r f =
+    Steps (Stands (now (t .entry)) k) c (storeNow (l .entry) (n .entry) (e .entry) (x .entry) (i .entry) (d .entry) (w .entry))
+    (stepOf r) (storeNow (l .exit) (n .exit) (e .exit) (x .exit) (i .exit) (d .exit) (w .exit)) f
 
 -- ---- the whole stage
 
 -- nothing is laid out yet
-abbrev pub StageStarts : Lent → Lent → Lent → Lent → Lent → Lent → Lent → Room → Type 0
-StageStarts t l e x i d w k = Stands (now t) k startCounters (storeNow l e x i d w) start
+abbrev pub StageStarts : Lent → Lent → Lent → Lent → Lent → Lent → Lent → Lent → Room → Type 0
+StageStarts t l n e x i d w k = Stands (now t) k startCounters (storeNow l n e x i d w) start
 
 -- the answer r, with what is left in the buffers, is what the definition comes to
-abbrev pub StageGives : OverCall → OverCall → OverCall → OverCall → OverCall → OverCall → OverCall → Room → Stage
+abbrev pub StageGives : OverCall → OverCall → OverCall → OverCall → OverCall → OverCall → OverCall → OverCall → Room → Stage
     → Result Refusal State → Type 0
-StageGives t l e x i d w k r a =
-    StageAgrees (now (t .entry)) k (storeNow (l .exit) (e .exit) (x .exit) (i .exit) (d .exit) (w .exit)) r a
+StageGives t l n e x i d w k r a =
+    StageAgrees (now (t .entry)) k (storeNow (l .exit) (n .exit) (e .exit) (x .exit) (i .exit) (d .exit) (w .exit)) r a

@@ -2,14 +2,17 @@
 use Prim.Native.Nat.{ℕ, zero, suc, _≤_}
 use mathlib.Core.Path.{_≡_}
 use mathlib.Core.List.{List, map}
+use mathlib.Core.Bool.{true, cond}
 use mathlib.Core.Option.{Option, none, some}
 use lib.ListN.{length}
 use Rattle.numbers.specs.Results.{Result, value, refused}
-use Rattle.numbers.specs.code.Tables.{rows}
+use Rattle.numbers.specs.code.Tables.{rows, column, slotsBehind, started}
 use Rattle.layout.specs.declared.directives.Width.the-variants.{Byte, Half, Word, Dword}
 use Rattle.layout.specs.declared.directives.Reserve.the-variants.{Space, Align}
 use Rattle.layout.specs.declared.directives.Store.{Store}
 use Rattle.layout.specs.declared.directives.Store.the-variants.{Numbers, Text, Float}
+use Rattle.layout.specs.declared.directives.Source.{Source}
+use Rattle.layout.specs.declared.directives.Source.the-variants as source
 use Rattle.layout.specs.declared.directives.Directive.{Directive}
 use Rattle.layout.specs.declared.directives.Directive.the-variants.{Symbol, Ignored, Equate, Reserves, Stores}
 use Rattle.layout.specs.declared.directives.Spelled.{Spelled}
@@ -19,10 +22,6 @@ use Rattle.layout.specs.declared.directives.Reservation.the-variants.{Ze
 use Rattle.layout.specs.declared.directives.Reserved.{Reserved}
 use Rattle.layout.specs.declared.directives.Reserved.the-variants as reserved
 use Rattle.layout.specs.Directives.{Row, directives}
-
--- rows that have the directives' names
-abbrev pub DirectiveNames : List ℕ → Type 0
-DirectiveNames b = rows 23 b ≡ map (λ r. r .name) directives
 
 -- a directive as a number in a row; a string that adds more than one byte 0 is none
 abbrev pub directiveNumber : Directive → ℕ
@@ -40,6 +39,19 @@ directiveNumber (Stores (Text zero)) = 11
 directiveNumber (Stores (Text (suc zero))) = 10
 directiveNumber (Stores (Text (suc (suc z)))) = 12
 
+-- a table that is lent: the names of rs, in the last three bytes of each row how long its name is, what it is and whether the data
+-- section has it, and behind the rows slots by which a text's row is found
+pub record DirectiveTable (rs : List Row) (t : List ℕ) : Type 0 where
+  pub names : rows (length rs) t ≡ map (λ r. r .name) rs
+  pub lengths : column 13 (length rs) t ≡ map (λ r. length (r .name)) rs
+  pub kinds : column 14 (length rs) t ≡ map (λ r. directiveNumber (r .directive)) rs
+  pub dataHas : column 15 (length rs) t ≡ map (λ r. cond (r .inData) 1 0) rs
+  pub slots : started (slotsBehind (length rs) t) 0 (rows (length rs) t) ≡ true
+
+-- the table of all directives
+abbrev pub DirectiveNames : List ℕ → Type 0
+DirectiveNames t = DirectiveTable directives t
+
 abbrev pub rowCode : Option Row → Spelled
 rowCode none = spelled.Nothing
 rowCode (some r) = spelled.As (record { directive = r .directive; len = length (r .name); «in_data» = r .inData })
@@ -49,6 +61,10 @@ abbrev pub FewZeros : Store → Type 0
 FewZeros (Numbers w) = Unit
 FewZeros (Text zeros) = zeros ≤ 1
 FewZeros Float = Unit
+
+abbrev pub SourceFits : Source → Type 0
+SourceFits (source.Stores x) = FewZeros x
+SourceFits (source.Reserves x) = Unit
 
 -- a name is no longer than the statement that begins with it
 abbrev pub DirectiveFits : Directive → Type 0

@@ -7,6 +7,7 @@ use Rattle.numbers.specs.Results.{Result, value, refused}
 use Rattle.numbers.specs.declared.text.Span.{Span}
 use Rattle.numbers.specs.code.Spans.{spanned}
 use Rattle.layout.specs.declared.state.Place.{Place}
+use Rattle.layout.specs.declared.directives.Source.the-variants as source
 use Rattle.layout.specs.declared.line.EquateParts.{EquateParts}
 use Rattle.layout.specs.declared.line.OwnStatement as own-code
 use Rattle.layout.specs.declared.line.OwnStatement.the-variants as own-kind
@@ -19,7 +20,7 @@ use Rattle.layout.specs.Limits.{textLimit}
 use Rattle.layout.specs.Pieces.{Piece, piece}
 use Rattle.layout.specs.Statements.{OwnStatement, item, stores, reserves, reservesBss, Statement, nothing, enters, equate, own, Line}
 use Rattle.layout.specs.State.{Equate}
-use Rattle.layout.specs.code.Rows.{FewZeros}
+use Rattle.layout.specs.code.Rows.{SourceFits}
 
 abbrev pub spanOf : Piece → Span
 spanOf p = record { start = p .at; len = length (p .bytes) }
@@ -42,8 +43,8 @@ LineIn t line = (length t ≤ textLimit) × (line < length t)
 
 abbrev pub ownCode : OwnStatement → own-code.OwnStatement
 ownCode (item p) = own-kind.Item (spanOf p)
-ownCode (stores x p) = own-kind.Stores x (spanOf p)
-ownCode (reserves x p) = own-kind.Reserves x (spanOf p)
+ownCode (stores x p) = own-kind.InData (source.Stores x) (spanOf p)
+ownCode (reserves x p) = own-kind.InData (source.Reserves x) (spanOf p)
 ownCode (reservesBss x p) = own-kind.ReservesBss x (spanOf p)
 
 abbrev pub statementCode : Result ℕ Statement → code.Statement
@@ -56,8 +57,8 @@ statementCode (refused n) = kind.Refused n
 -- and back, where its spans lie within the text
 abbrev pub ownAt : List ℕ → own-code.OwnStatement → OwnStatement
 ownAt t (own-kind.Item q) = item (pieceAt t q)
-ownAt t (own-kind.Stores x q) = stores x (pieceAt t q)
-ownAt t (own-kind.Reserves x q) = reserves x (pieceAt t q)
+ownAt t (own-kind.InData (source.Stores x) q) = stores x (pieceAt t q)
+ownAt t (own-kind.InData (source.Reserves x) q) = reserves x (pieceAt t q)
 ownAt t (own-kind.ReservesBss x q) = reservesBss x (pieceAt t q)
 
 abbrev pub statementAt : List ℕ → code.Statement → Result ℕ Statement
@@ -80,8 +81,7 @@ equateAt t place line e =
 
 abbrev pub OwnWithin : List ℕ → own-code.OwnStatement → Type 0
 OwnWithin t (own-kind.Item q) = SpanWithin t q
-OwnWithin t (own-kind.Stores x q) = FewZeros x × SpanWithin t q
-OwnWithin t (own-kind.Reserves x q) = SpanWithin t q
+OwnWithin t (own-kind.InData x q) = SourceFits x × SpanWithin t q
 OwnWithin t (own-kind.ReservesBss x q) = SpanWithin t q
 
 abbrev pub StatementWithin : List ℕ → code.Statement → Type 0

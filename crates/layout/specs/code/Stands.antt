@@ -39,6 +39,7 @@ use Rattle.layout.specs.State.{Label, Equate, ItemLine, LabelWord, Items
 use Rattle.layout.specs.Records.{Field, labelRecord, labelFields, equateRecord, equateFields, itemRecord, itemFields, tableOf}
 use Rattle.layout.specs.code.Places.{placeCode}
 use Rattle.layout.specs.code.Tables.{exprRoom, labelWordRoom, exprFields, labelWordFields}
+use Rattle.layout.specs.code.Index.{Indexed, Distinct, labelIndexRoom}
 use Rattle.layout.specs.code.Fits.{Each, LabelsFit, EquatesFit, ItemsFit, StoredFits}
 
 -- ---- records while the lines are read
@@ -69,12 +70,23 @@ labelWordOf t r = record { at = r .at; name = spanned t (record { start = r .sta
 
 -- ---- the parts
 
-pub record LabelsStand (t : List ℕ) (k : Room) (c : ℕ) (b : List ℕ) (ls : List Label) : Type 0 where
+-- the labels' records, and the index of their names
+pub record LabelStore : Type 0 where
+  pub records : List ℕ
+  pub index : List ℕ
+
+abbrev pub labelName : Label → List ℕ
+labelName l = l .name .bytes
+
+pub record LabelsStand (t : List ℕ) (k : Room) (c : ℕ) (b : LabelStore) (ls : List Label) : Type 0 where
   pub counted : c ≡ length ls
   pub fits : LabelsFit t k ls
   pub limit : k .labels ≤ labelLimit
-  pub lent : k .labels * labelSize ≤ length b
-  pub bytes : b ≡ tableOf (length b) labelSoFar ls
+  pub lent : k .labels * labelSize ≤ length (b .records)
+  pub records : b .records ≡ tableOf (length (b .records)) labelSoFar ls
+  pub room : length (b .index) ≡ labelIndexRoom
+  pub indexed : Indexed (map labelName ls) (b .index)
+  pub distinct : Distinct (map labelName ls)
 
 pub record EquateStore : Type 0 where
   pub records : List ℕ
@@ -141,12 +153,15 @@ pub record RestStand (t : List ℕ) (k : Room) (c : RestCounters) (b : RestStore
   pub own : OwnStand t k (c .own) (b .own) (σ .own)
 
 pub record Store : Type 0 where
-  pub labels : List ℕ
+  pub labels : LabelStore
   pub rest : RestStore
 
 pub record Stands (t : List ℕ) (k : Room) (c : Counters) (b : Store) (σ : State) : Type 0 where
   pub labels : LabelsStand t k (c .labels) (b .labels) (σ .labels)
   pub rest : RestStand t k (c .rest) (b .rest) (σ .rest)
+
+abbrev pub labelStore : List ℕ → List ℕ → LabelStore
+labelStore l n = record { records = l; index = n }
 
 abbrev pub equateStore : List ℕ → List ℕ → EquateStore
 equateStore e x = record { records = e; exprs = x }
@@ -160,8 +175,8 @@ ownStore i d w = record { items = i; stored = dataStore d w }
 abbrev pub restStore : List ℕ → List ℕ → List ℕ → List ℕ → List ℕ → RestStore
 restStore e x i d w = record { equates = equateStore e x; own = ownStore i d w }
 
-abbrev pub store : List ℕ → List ℕ → List ℕ → List ℕ → List ℕ → List ℕ → Store
-store l e x i d w = record { labels = l; rest = restStore e x i d w }
+abbrev pub store : List ℕ → List ℕ → List ℕ → List ℕ → List ℕ → List ℕ → List ℕ → Store
+store l n e x i d w = record { labels = labelStore l n; rest = restStore e x i d w }
 
 -- ---- answers
 

@@ -1,10 +1,11 @@
 -- The layout's own records, and records read back from their bytes.
-use Prim.Native.Nat.{ℕ, zero, suc, _+_, _*_, _<_}
+use Prim.Native.Nat.{ℕ, zero, suc, _+_, _*_, _≤_, _<_}
+use mathlib.Core.Path.{_≡_}
 use mathlib.Core.List.{List, [], _∷_}
 use mathlib.Core.Bool.{Bool, true, false}
 use mathlib.Core.Option.{Option, none, some}
 use lib.Dec.{eqb}
-use lib.ListN.{take, drop}
+use lib.ListN.{length, take, drop}
 use Rattle.numbers.specs.Ints.{signedOf}
 use Rattle.numbers.specs.Text.{same}
 use Rattle.numbers.specs.code.Spans.{spanned}
@@ -17,6 +18,7 @@ use Rattle.layout.specs.declared.labels.Lookup.{Lookup}
 use Rattle.layout.specs.declared.labels.Lookup.the-variants as lookup
 use Rattle.layout.specs.Limits.{labelSize, equateSize, equateLimit, itemSize, labelWordLimit}
 use Rattle.layout.specs.Records.{Field, four}
+use Rattle.layout.specs.code.Index.{Indexed, Distinct}
 
 -- ---- an equate's expression, and a label word: 16 bytes each
 
@@ -130,3 +132,13 @@ lookupOf lookup.Nothing = none
 abbrev pub LookupBelow : ℕ → Lookup → Type 0
 LookupBelow count (lookup.At k) = k < count
 LookupBelow count lookup.Nothing = Unit
+
+-- the index of so many labels' names, no two of them the same
+pub record LabelsIndexed (t b ix : List ℕ) (count : ℕ) : Type 0 where
+  pub lent : count * labelSize ≤ length b
+  pub indexed : Indexed (labelNames t b 0 count) ix
+  pub distinct : Distinct (labelNames t b 0 count)
+
+-- what was found is what a search in order finds
+abbrev pub LooksUp : List ℕ → List ℕ → ℕ → List ℕ → Lookup → Type 0
+LooksUp t b count n r = (lookupOf r ≡ lookupIn n 0 (labelNames t b 0 count)) × LookupBelow count r

@@ -1,19 +1,30 @@
 -- What the code's writes into the data mean.
-use Prim.Native.Nat.{ℕ, _+_, _≤_}
+use Prim.Native.Nat.{ℕ, _+_, _≤_, _<_}
 use mathlib.Core.Path.{_≡_}
-use mathlib.Core.List.{List, _++_}
-use lib.ListN.{replicate}
-use Rattle.numbers.specs.Results.{Result, value, refused}
+use mathlib.Core.List.{List, [], _∷_, _++_, map}
+use mathlib.Core.Bool.{cond}
+use lib.Dec.{eqb}
+use lib.ListN.{length, replicate}
+use Rattle.numbers.specs.Results.{Result, value, refused, mapped}
 use Rattle.numbers.specs.Ints.{bits}
+use Rattle.numbers.specs.Numbers.{immOf}
+use Rattle.numbers.specs.Literals.{stringOf}
 use Rattle.numbers.specs.code.Spans.{spanned}
+use Rattle.numbers.specs.code.Cursors.{operandsFrom}
+use Rattle.layout.specs.declared.directives.Store.the-variants.{Numbers, Text, Float}
+use Rattle.layout.specs.declared.directives.Source.{Source}
+use Rattle.layout.specs.declared.directives.Source.the-variants.{Stores, Reserves}
 use Rattle.layout.specs.declared.data.Write as code
 use Rattle.layout.specs.declared.data.Write.the-variants as kind
 use Rattle.layout.specs.declared.data.Reading.{Reading}
 use Rattle.layout.specs.declared.data.Reading.the-variants as reading
+use Rattle.layout.specs.declared.data.Next.{Next}
+use Rattle.layout.specs.declared.data.Next.the-variants as next
 use Rattle.layout.specs.Bytes.{le}
-use Rattle.layout.specs.Directives.{Write, bytes, gap, addressOf, widthBytes}
+use Rattle.layout.specs.Directives.{Write, bytes, gap, addressOf, widthBytes, reservation, operandWrite, stringWrite, storeWrites}
 use Rattle.layout.specs.code.Spans.{SpanWithin}
 use Rattle.layout.specs.code.Rows.{Small}
+use Rattle.layout.specs.code.Steps.{Some}
 
 abbrev pub writeAt : List ℕ → code.Write → Write
 writeAt t (kind.Number w v) = bytes (le (widthBytes w) (bits 64 v))
@@ -48,3 +59,33 @@ Sized (kind.Number w v) n = Unit
 Sized (kind.Text q zeros) n = n ≡ q .len + zeros
 Sized (kind.Gap r) n = Unit
 Sized (kind.Address q) n = Unit
+
+-- ---- reading by reading
+
+-- what a directive writes in data, by what follows its name
+abbrev pub sourceReadings : Source → List ℕ → List (Result ℕ Write)
+sourceReadings (Stores x) s = storeWrites x s
+sourceReadings (Reserves x) s = mapped gap (reservation x (immOf s)) ∷ []
+
+-- what is read at once, at the start
+abbrev pub onceFrom : Result ℕ Write → ℕ → List (Result ℕ Write)
+onceFrom r at = cond (eqb at 0) (r ∷ []) []
+
+-- the readings from a place on (proofs/ReadingLaws.antt ties them to `sourceReadings`: `readings-all`); none follows a refused float
+abbrev pub readingsFrom : Source → List ℕ → ℕ → List (Result ℕ Write)
+readingsFrom (Stores (Numbers w)) s at = map (operandWrite w) (operandsFrom s at)
+readingsFrom (Stores (Text zeros)) s at = onceFrom (stringWrite zeros (stringOf s)) at
+readingsFrom (Stores Float) s at = refused 21 ∷ []
+readingsFrom (Reserves x) s at = onceFrom (mapped gap (reservation x (immOf s))) at
+
+-- what was read, with the place to go on from
+abbrev pub nextCode : Reading → ℕ → Next
+nextCode (reading.As w) after = next.As w after
+nextCode (reading.Refused n) after = next.Refused n
+
+-- what the code reads from a place on is the first of the readings there, and the others are those from a later place on; or none is left
+abbrev pub NextIs : List ℕ → Source → List ℕ → ℕ → Next → Type 0
+NextIs t x s at (next.As w after) =
+    (readingsFrom x s at ≡ value (writeAt t w) ∷ readingsFrom x s after) × WriteFits t w × (at < after) × (after ≤ length s + 1)
+NextIs t x s at (next.Refused n) = Some (λ rs. readingsFrom x s at ≡ refused n ∷ rs)
+NextIs t x s at next.End = readingsFrom x s at ≡ []

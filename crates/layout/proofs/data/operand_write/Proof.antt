@@ -1,10 +1,10 @@
--- `data::operand_write`: a number in its width's range, or a name.
-use mathlib.Core.Path.{refl, sym, _∙_}
+-- `data::operand_write`: a number, or a name.
 use mir.Syntax.{w64}
 use mir.Val.{SFits}
 use mir.Facts.{toZ-ofZ}
-use borrow.Author.Tests.{not-true, not-false}
+use denote.Ref.{now}
 use borrow.Author.Needs.{needs}
+use Rattle.numbers.specs.code.Spans.{spanned}
 use Rattle.layout.proofs.data.operand_write.Statement.{statement}
 use Rattle.layout.proofs.data.operand_write.Tie as tie
 
@@ -15,17 +15,11 @@ returns c =
 
 returns-2 : tie.Need-returns-2
 returns-2 c =
-    let f : SFits w64 (c .before .before .before .v .given .0 .0) = search needs in
-    let value = rw (c .before .before .before .before .before .before .span-bytes .ensures, c .before .before .before .v .given .1) at (c .before .before .before .before .before .read .ensures) in
-    let no = rw (toZ-ofZ f) at (sym (c .before .takes .ensures) ∙ not-true _ (c .if1 .taken)) in
-    (rw (← value, no) refl, tt)
-
-returns-3 : tie.Need-returns-3
-returns-3 c =
-    let f : SFits w64 (c .before .before .before .v .given .0 .0) = search needs in
-    let value = rw (c .before .before .before .before .before .before .span-bytes .ensures, c .before .before .before .v .given .1) at (c .before .before .before .before .before .read .ensures) in
-    let yes = rw (toZ-ofZ f) at (sym (c .before .takes .ensures) ∙ not-false _ (c .if1 .left)) in
-    (rw (← value, yes, toZ-ofZ f) refl, tt)
+    let f : SFits w64 (c .before .before .v .given .0 .0) = search needs in
+    let at-span-bytes = c .before .before .before .before .before in
+    let start = at-span-bytes .before .before in
+    let value = rw (at-span-bytes .span-bytes .ensures, c .before .before .v .given .1) at (c .before .before .before .before .read .ensures) in
+    rw (← value) (rw (toZ-ofZ f) at (c .number-write .ensures (now (start .args .text)) (spanned (now (start .args .text)) (start .args .operand))))
 
 pub operand-write-spec : {M : Type 1} → statement M
 operand-write-spec =
@@ -37,6 +31,5 @@ operand-write-spec =
     (λ c. search needs)  -- enum-told
     (λ c κs. search needs)  -- unread-operand-requires
     returns
-    (λ c κs. search needs)  -- takes-requires
-    returns-2
-    returns-3)
+    (λ c κs. search needs)  -- number-write-requires
+    returns-2)

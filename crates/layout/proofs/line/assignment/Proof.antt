@@ -29,12 +29,15 @@ returns c =
     let dot = sym (rw (c .before .before .before .before .span-bytes .ensures) at (c .before .before .first-is .ensures)) ∙ c .before .if1 .taken in
     c .other-in .ensures p (whole (c .before .before .before)) ∙ ap statementCode (sym (dot-other (a .section) p dot))
 
+find-from-requires : tie.Need-find-from-requires
+find-from-requires c κs = rw (c .before .before .before .span-bytes .ensures) (c .before .before .before .before .before .pre)
+
 returns-2 : tie.Need-returns-2
 returns-2 c =
     let a = c .before .before .before .before .before .before .before .before .args in
     let s = c .before .before .before .before .before .before .span-bytes .ensures in
     let p = pieceAt (now (a .text)) (a .part) in
-    let other = unsigned-other (a .section) p (c .before .before .find .result) (rw s at (c .before .before .find .ensures)) (plain (c .before .before .before)) (rw s at (c .before .if2 .taken)) in
+    let other = unsigned-other (a .section) p (c .before .before .find-from .result) (rw s at (c .before .before .find-from .ensures)) (plain (c .before .before .before)) (rw s at (c .before .if2 .taken)) in
     c .other-in2 .ensures p (whole (c .before .before .before .before .before)) ∙ ap statementCode (sym other)
 
 trim-to-requires : tie.Need-trim-to-requires
@@ -50,7 +53,7 @@ returns-3 c =
     let s = at .before .before .before .before .before .span-bytes .ensures in
     let p = pieceAt (now (a .text)) (a .part) in
     let sides = rw (c .before .before .before .before .before .trim-to .ensures, c .before .before .before .before .trim-from .ensures) at (c .before .if3 .taken) in
-    let other = bare-other (a .section) p (at .before .find .result) (rw s at (at .before .find .ensures)) (plain (at .before .before)) (rw s at (at .if2 .left)) sides in
+    let other = bare-other (a .section) p (at .before .find-from .result) (rw s at (at .before .find-from .ensures)) (plain (at .before .before)) (rw s at (at .if2 .left)) sides in
     c .other-in3 .ensures p (whole (at .before .before .before .before)) ∙ ap statementCode (sym other)
 
 returns-4 : tie.Need-returns-4
@@ -60,7 +63,7 @@ returns-4 c =
     let s = at .before .before .before .before .before .span-bytes .ensures in
     let p = pieceAt (now (a .text)) (a .part) in
     let sides = rw (c .before .before .before .before .before .trim-to .ensures, c .before .before .before .before .trim-from .ensures) at (c .before .if3 .left) in
-    let equate = signed-equate (a .section) p (at .before .find .result) (rw s at (at .before .find .ensures)) (plain (at .before .before)) (rw s at (at .if2 .left)) sides in
+    let equate = signed-equate (a .section) p (at .before .find-from .result) (rw s at (at .before .find-from .ensures)) (plain (at .before .before)) (rw s at (at .if2 .left)) sides in
     c .equate-of .ensures _ _ (c .before .before .before .before .before .trim-to .ensures)
     (c .before .before .before .before .trim-from .ensures) ∙ ap statementCode (sym equate)
 
@@ -73,7 +76,7 @@ assignment-spec =
     (λ c κs. search needs)  -- first-is-requires
     (λ c κs. search needs)  -- other-in-requires
     returns
-    (λ c κs. search needs)  -- find-requires
+    find-from-requires
     (λ c κs. search needs)  -- other-in-requires-2
     returns-2
     trim-to-requires

@@ -1,12 +1,12 @@
--- `line::unlabelled`: an empty statement says nothing, and only a dot begins a directive.
+-- `line::unlabelled`: an empty statement says nothing, and what has no row is no directive.
 use mathlib.Core.Path.{_≡_, ap, refl, sym, _∙_}
 use lib.ListN.{length}
 use denote.Ref.{now}
-use borrow.Author.Tests.{eq-eqb, not-true}
+use borrow.Author.Tests.{eq-eqb}
 use Rattle.numbers.specs.code.Spans.{spanned}
 use Rattle.layout.specs.Statements.{unlabelledOf}
 use Rattle.layout.specs.code.Spans.{pieceAt, statementCode}
-use Rattle.layout.proofs.StatementLaws.{dotless-other, rowless-other, directive-said}
+use Rattle.layout.proofs.StatementLaws.{rowless-other, directive-said}
 use borrow.Author.Needs.{needs}
 use Rattle.layout.proofs.line.unlabelled.Statement.{statement}
 use Rattle.layout.proofs.line.unlabelled.Tie as tie
@@ -18,30 +18,23 @@ returns : tie.Need-returns
 unfolding unlabelledOf
 returns c = rw (← c .before .span-bytes .ensures, eq-eqb _ _ (c .if1 .taken)) refl
 
+directive-in-requires : tie.Need-directive-in-requires
+directive-in-requires c κs = (rw (c .before .before .before .before .before .span-bytes .ensures, c .before .spelling .given .1) at (c .before .before .before .directive-of .ensures .1)) .0
+
+assignment-requires : tie.Need-assignment-requires
+assignment-requires c κs = c .before .before .before .before .before .before .pre .1
+
 returns-2 : tie.Need-returns-2
 returns-2 c =
-    let a = c .before .before .before .before .before .before .args in
-    let no-dot = sym (rw (c .before .before .before .before .span-bytes .ensures) at (c .before .before .first-is .ensures)) ∙ not-true _ (c .before .if2 .taken) in
-    c .assignment .ensures ∙ ap statementCode
-    (sym (dotless-other (a .section) (pieceAt (now (a .text)) (a .part)) (some-bytes (c .before .before .before)) no-dot))
+    let a = c .before .before .before .before .before .before .before .before .args in
+    let row = rw (c .before .before .before .before .before .before .span-bytes .ensures, c .before .before .spelling .given .1) at (c .before .before .before .before .directive-of .ensures .0) in
+    c .directive-in .ensures ∙ ap statementCode (sym (directive-said (a .section) (pieceAt (now (a .text)) (a .part)) (some-bytes (c .before .before .before .before .before)) _ row))
 
 returns-3 : tie.Need-returns-3
 returns-3 c =
-    let a = c .before .before .before .before .before .before .before .before .before .args in
-    let no-row = rw (c .before .before .before .before .before .before .before .span-bytes .ensures, c .before .enum-told .given .1) at (c .before .before .before .directive-of .ensures .0) in
-    c .assignment2 .ensures ∙ ap statementCode
-    (sym (rowless-other (a .section) (pieceAt (now (a .text)) (a .part)) (some-bytes (c .before .before .before .before .before .before)) no-row))
-
-directive-in-requires : tie.Need-directive-in-requires
-directive-in-requires c κs =
-    (rw (c .before .before .before .before .before .before .before .span-bytes .ensures, c .before .spelling .given .1) at (c .before .before .before .directive-of .ensures .1)) .0
-
-returns-4 : tie.Need-returns-4
-returns-4 c =
-    let a = c .before .before .before .before .before .before .before .before .before .before .args in
-    let row = rw (c .before .before .before .before .before .before .before .before .span-bytes .ensures, c .before .before .spelling .given .1) at (c .before .before .before .before .directive-of .ensures .0) in
-    c .directive-in .ensures ∙ ap statementCode
-    (sym (directive-said (a .section) (pieceAt (now (a .text)) (a .part)) (some-bytes (c .before .before .before .before .before .before .before)) _ row))
+    let a = c .before .before .before .before .before .before .before .args in
+    let no-row = rw (c .before .before .before .before .before .span-bytes .ensures, c .before .enum-told .given .1) at (c .before .before .before .directive-of .ensures .0) in
+    c .assignment .ensures ∙ ap statementCode (sym (rowless-other (a .section) (pieceAt (now (a .text)) (a .part)) (some-bytes (c .before .before .before .before)) no-row))
 
 pub unlabelled-spec : {M : Type 1} → statement M
 unlabelled-spec =
@@ -49,13 +42,10 @@ unlabelled-spec =
     (tie.spec
     (λ c κs. search needs)  -- span-bytes-requires
     returns
-    (λ c κs. search needs)  -- first-is-requires
-    (λ c κs. search needs)  -- assignment-requires
-    returns-2
     (λ c κs. search needs)  -- directive-of-requires
     (λ c. search needs)  -- enum-known-spelling
-    (λ c. search needs)  -- enum-told
-    (λ c κs. search needs)  -- assignment-requires-2
-    returns-3
     directive-in-requires
-    returns-4)
+    (λ c. search needs)  -- enum-told
+    assignment-requires
+    returns-2
+    returns-3)

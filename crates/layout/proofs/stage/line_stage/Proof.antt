@@ -1,136 +1,109 @@
 -- `stage::line_stage`: what the lines that are left come to from here is what all of them come to.
 use Prim.Native.Nat.{_-_}
 use mathlib.Core.Path.{_≡_, refl, ap, _∙_}
+use mathlib.Core.Logic.{⊎-elim}
 use native.Mathlib.Omega.{arith}
 use lib.ListN.{length}
-use denote.Ref.{now}
-use Rattle.numbers.specs.code.Tables.{rows, rowName}
+use Rattle.numbers.specs.code.Tables.{rows, rowName, column, slotOf, slotted, prefixSlot, started}
 use Rattle.layout.specs.Pseudos.{spellings}
 use Rattle.layout.specs.Directives as table
 use Rattle.layout.specs.code.Kinds.{PseudoNames}
 use Rattle.layout.specs.code.Rows.{DirectiveNames}
 use Rattle.layout.specs.code.Stands.{store, stepOf}
-use Rattle.layout.proofs.TurnLaws.{Head, end-within, head-first, turn-go, turn-stop, turns-end}
+use Rattle.layout.proofs.CutLaws.{cut-order, cut-end}
+use Rattle.layout.proofs.TurnLaws.{Head, head-same, head-first, turn-go, turn-stop, turn-blank, turns-end}
 use borrow.Author.Needs.{needs}
 use Rattle.layout.proofs.stage.line_stage.Statement.{statement}
 use Rattle.layout.proofs.stage.line_stage.Tie as tie
 
 abbrev Inv-loop : tie.InvT-loop
-Inv-loop text labels₀ equates₀ exprs₀ items₀ data-bytes₀ label-words₀ room directives pseudos st₀ at₀ line₀ labels equates exprs items data-bytes label-words st at line =
-    Head text room (store labels equates exprs items data-bytes label-words) st at line × (length labels ≡ length labels₀)
+Inv-loop text labels₀ index₀ equates₀ exprs₀ items₀ data-bytes₀ label-words₀ room directives pseudos st₀ at₀ line₀ labels index equates exprs items data-bytes label-words st at line =
+    Head text room (store labels index equates exprs items data-bytes label-words) st at line × (length labels ≡ length labels₀)
+    × (length index ≡ length index₀)
     × (length equates ≡ length equates₀)
     × (length exprs ≡ length exprs₀) × (length items ≡ length items₀) × (length data-bytes ≡ length data-bytes₀)
     × (length label-words ≡ length label-words₀)
     × DirectiveNames directives × PseudoNames pseudos
 
 abbrev μ-loop : tie.MeasureT-loop
-μ-loop text labels₀ equates₀ exprs₀ items₀ data-bytes₀ label-words₀ room directives pseudos st₀ at₀ line₀ labels equates exprs items data-bytes label-words st at line = length text - at
+μ-loop text labels₀ index₀ equates₀ exprs₀ items₀ data-bytes₀ label-words₀ room directives pseudos st₀ at₀ line₀ labels index equates exprs items data-bytes label-words st at line = length text - at
 
 loop-holds : tie.Need-loop-holds Inv-loop μ-loop
-unfolding spellings table.directives rows rowName
-loop-holds c = (head-first _ _ _ (c .before .before .before .before .before .before .before .pre .1), refl, refl, refl, refl, refl, refl, refl, refl)
-
-line-end-requires : tie.Need-line-end-requires Inv-loop μ-loop
-line-end-requires c κs = search needs
+unfolding spellings table.directives rows rowName column slotOf slotted prefixSlot started
+loop-holds c =
+    let directives : DirectiveNames _ = record { names = refl; lengths = refl; kinds = refl; dataHas = refl; slots = refl } in
+    let pseudos : PseudoNames _ = record { names = refl; kinds = refl; bares = refl; slots = refl } in
+    (head-first _ _ _ (c .before .before .before .before .before .before .before .before .pre .1), refl, refl, refl, refl, refl, refl, refl, directives, pseudos)
 
 step-line-requires : tie.Need-step-line-requires Inv-loop μ-loop
 step-line-requires c κs =
-    let s = c .before .before .before .before .before .before .before .before .before .before .before .before .before .before .before .before .before .before in
-    let l = c .before .before .before .before .before .before .before .before .before .before .loop in
-    let below = c .before .before .before .before .before .before .before .before .before .loop-test .taken in
-    let e = c .before .before .before .before .before .before .before .before .line-end .ensures in (
-      record { it = l .inv .0 .σ; stands = l .inv .0 .stands },
-      (s .pre .0, omega (arith, l .inv .0 .counted, below)),
-      omega (arith, e),
-      end-within (now (s .args .text)) (l .at) _ below e,
-      l .inv .7,
-      l .inv .8,
+    let d = c .before .before .before .before .before .before .before .before .before .before .before in
+    let l = d .before .before in
+    let s = l .before .before .before .before .before .before .before .before .before in (
+      record { it = l .loop .inv .0 .σ; stands = l .loop .inv .0 .stands },
+      (s .pre .0, omega (arith, l .loop .inv .0 .counted, d .before .loop-test .taken)),
+      d .cut-line .ensures .1,
+      l .loop .inv .8,
+      l .loop .inv .9,
     )
-
-enum-known-next : tie.Need-enum-known-next Inv-loop μ-loop
-enum-known-next c = search needs
-
-enum-known-n : tie.Need-enum-known-n Inv-loop μ-loop
-enum-known-n c = search needs
-
-same-length : tie.Need-same-length Inv-loop μ-loop
-same-length c = search needs
-
-same-length-2 : tie.Need-same-length-2 Inv-loop μ-loop
-same-length-2 c = search needs
-
-same-length-3 : tie.Need-same-length-3 Inv-loop μ-loop
-same-length-3 c = search needs
-
-same-length-4 : tie.Need-same-length-4 Inv-loop μ-loop
-same-length-4 c = search needs
-
-same-length-5 : tie.Need-same-length-5 Inv-loop μ-loop
-same-length-5 c = search needs
-
-same-length-6 : tie.Need-same-length-6 Inv-loop μ-loop
-same-length-6 c = search needs
 
 returns : tie.Need-returns Inv-loop μ-loop
 returns c =
-    let step = c .before .before .before .before .before .before .before .before .before .before .before .before .before .before .before in
-    let e = step .before .before .before .before .before .before .before .before .before in
-    let l = e .before .before in
-    rw (turn-stop _ _ _ _ _ _ (l .loop .inv .0) (e .line-end .result) (e .before .loop-test .taken) (e .line-end .ensures) _ _ (step .step-line .ensures) _ (ap stepOf (c .before .n .given .1))) (refl, refl)
+    let step = c .before .before .before .before .before .before .before .before .before .before .before .before .before .before .before .before .before in
+    let d = step .before .before .before .before .before .before .before .before .before .before .before .before in
+    let l = d .before .before in
+    let e = d .cut-line .ensures in
+    rw (turn-stop _ _ _ _ _ _ (l .loop .inv .0) _ (d .before .loop-test .taken) (e .0) (e .1) _ _ (step .step-line .ensures) _ (ap stepOf (c .before .n .given .1))) (refl, refl)
 
 add-at : tie.Need-add-at Inv-loop μ-loop
-add-at c =
-    let e = c .before .before .before .before .before .before .before .before .before .before .before .before .before .before .before .before .before .before .before .before .before .before .before .before in
-    let l = e .before .before in
-    let s = l .before .before .before .before .before .before .before .before in
-    omega (arith, end-within (now (s .args .text)) (l .loop .at) (e .line-end .result) (e .before .loop-test .taken) (e .line-end .ensures), s .pre .0)
+add-at c = omega (arith, cut-end _ _ (c .before .before .cut-line .ensures .1), c .before .before .before .before .before .before .before .before .before .before .before .before .before .pre .0)
 
 add-line : tie.Need-add-line Inv-loop μ-loop
 add-line c =
-    let e = c .before .before .before .before .before .before .before .before .before .before .before .before .before .before .before .before .before .before .before .before .before .before .before .before in
-    let l = e .before .before in
-    let s = l .before .before .before .before .before .before .before .before in
-    omega (arith, l .loop .inv .0 .counted, e .before .loop-test .taken, s .pre .0)
+    let l = c .before .before .before .before in
+    omega (arith, l .loop .inv .0 .counted, c .before .before .before .loop-test .taken, c .before .before .before .before .before .before .before .before .before .before .before .before .before .pre .0)
 
 loop-less : tie.Need-loop-less Inv-loop μ-loop
-loop-less c = let e = c .before .before .before .before .before .before .before .before .before .before .before .before .before .before .before .before .before .before .before .before .before .before .before .before in omega (arith, e .line-end .ensures, e .before .loop-test .taken)
+loop-less c =
+    let e = c .before .before .cut-line .ensures in
+    omega (arith, cut-order _ _ (e .1), e .0, c .before .before .before .loop-test .taken)
 
 loop-again : tie.Need-loop-again Inv-loop μ-loop
 loop-again c =
-    let step = c .before .before .before .before .before .before .before .before .before .before .before .before .before .before .before in
-    let e = step .before .before .before .before .before .before .before .before .before in
-    let l = e .before .before in
-    let k = step .step-line .kept in
-    let v = l .loop .inv in (
-      turn-go _ _ _ _ _ _ (l .loop .inv .0) (e .line-end .result) (e .before .loop-test .taken) (e .line-end .ensures) _ _
-          (step .step-line .ensures) _ (ap stepOf (c .before .next .given .1)),
-      k .1 .1 .1 .1 .1 .0 ∙ v .1,
-      k .1 .1 .1 .1 .1 .1 .0 ∙ v .2,
-      k .1 .1 .1 .1 .1 .1 .1 .0 ∙ v .3,
-      k .1 .1 .1 .1 .1 .1 .1 .1 .0 ∙ v .4,
-      k .1 .1 .1 .1 .1 .1 .1 .1 .1 .0 ∙ v .5,
-      k .1 .1 .1 .1 .1 .1 .1 .1 .1 .1 .0 ∙ v .6,
-      v .7,
+    let d = c .before .before in
+    let l = d .before .before in
+    let e = d .cut-line .ensures in
+    let below = d .before .loop-test .taken in
+    let v = l .loop .inv in
+    ⊎-elim
+    (λ w.
+    let k = w .10 .kept in (
+      head-same _ _ _ _ _ _ _ _ (λ i. store (w .28 i) (w .29 i) (w .30 i) (w .31 i) (w .32 i) (w .33 i) (w .34 i)) (w .35)
+          (turn-go _ _ _ _ _ _ (v .0) _ below (e .0) (e .1) _ _ (w .10 .ensures) _ (ap stepOf (w .26 .given .1))),
+      ap length (w .28) ∙ k .1 .1 .1 .1 .0 ∙ v .1,
+      ap length (w .29) ∙ k .1 .1 .1 .1 .1 .0 ∙ v .2,
+      ap length (w .30) ∙ k .1 .1 .1 .1 .1 .1 .0 ∙ v .3,
+      ap length (w .31) ∙ k .1 .1 .1 .1 .1 .1 .1 .0 ∙ v .4,
+      ap length (w .32) ∙ k .1 .1 .1 .1 .1 .1 .1 .1 .0 ∙ v .5,
+      ap length (w .33) ∙ k .1 .1 .1 .1 .1 .1 .1 .1 .1 .0 ∙ v .6,
+      ap length (w .34) ∙ k .1 .1 .1 .1 .1 .1 .1 .1 .1 .1 .0 ∙ v .7,
       v .8,
-    )
-
-same-length-7 : tie.Need-same-length-7 Inv-loop μ-loop
-same-length-7 c = search needs
-
-same-length-8 : tie.Need-same-length-8 Inv-loop μ-loop
-same-length-8 c = search needs
-
-same-length-9 : tie.Need-same-length-9 Inv-loop μ-loop
-same-length-9 c = search needs
-
-same-length-10 : tie.Need-same-length-10 Inv-loop μ-loop
-same-length-10 c = search needs
-
-same-length-11 : tie.Need-same-length-11 Inv-loop μ-loop
-same-length-11 c = search needs
-
-same-length-12 : tie.Need-same-length-12 Inv-loop μ-loop
-same-length-12 c = search needs
+      v .9,
+    ))
+    (λ w. (
+      head-same _ _ _ _ _ _ _ _ (λ i. store (w .1 i) (w .2 i) (w .3 i) (w .4 i) (w .5 i) (w .6 i) (w .7 i)) (w .8)
+          (turn-blank _ _ _ _ _ _ (v .0) _ below (e .0) (e .1) (w .0 .left)),
+      ap length (w .1) ∙ v .1,
+      ap length (w .2) ∙ v .2,
+      ap length (w .3) ∙ v .3,
+      ap length (w .4) ∙ v .4,
+      ap length (w .5) ∙ v .5,
+      ap length (w .6) ∙ v .6,
+      ap length (w .7) ∙ v .7,
+      v .8,
+      v .9,
+    ))
+    (c .if1 .came)
 
 returns-2 : tie.Need-returns-2 Inv-loop μ-loop
 returns-2 c =
@@ -144,25 +117,27 @@ line-stage-spec =
     Inv-loop
     μ-loop
     loop-holds
-    line-end-requires
+    (λ c κs. search needs)  -- cut-line-requires
     step-line-requires
-    enum-known-next
-    enum-known-n
-    same-length
-    same-length-2
-    same-length-3
-    same-length-4
-    same-length-5
-    same-length-6
+    (λ c. search needs)  -- enum-known-next
+    (λ c. search needs)  -- enum-known-n
+    (λ c. let step = c .before .before .before .before .before .before .before .before .before .before .before .before .before .before .before .before .before in step .step-line .kept .1 .1 .1 .1 .0 ∙ step .before .before .before .before .before .before .before .before .before .before .before .before .before .before .loop .inv .1)  -- same-length
+    (λ c. let step = c .before .before .before .before .before .before .before .before .before .before .before .before .before .before .before .before .before in step .step-line .kept .1 .1 .1 .1 .1 .0 ∙ step .before .before .before .before .before .before .before .before .before .before .before .before .before .before .loop .inv .2)  -- same-length-2
+    (λ c. let step = c .before .before .before .before .before .before .before .before .before .before .before .before .before .before .before .before .before in step .step-line .kept .1 .1 .1 .1 .1 .1 .0 ∙ step .before .before .before .before .before .before .before .before .before .before .before .before .before .before .loop .inv .3)  -- same-length-3
+    (λ c. let step = c .before .before .before .before .before .before .before .before .before .before .before .before .before .before .before .before .before in step .step-line .kept .1 .1 .1 .1 .1 .1 .1 .0 ∙ step .before .before .before .before .before .before .before .before .before .before .before .before .before .before .loop .inv .4)  -- same-length-4
+    (λ c. let step = c .before .before .before .before .before .before .before .before .before .before .before .before .before .before .before .before .before in step .step-line .kept .1 .1 .1 .1 .1 .1 .1 .1 .0 ∙ step .before .before .before .before .before .before .before .before .before .before .before .before .before .before .loop .inv .5)  -- same-length-5
+    (λ c. let step = c .before .before .before .before .before .before .before .before .before .before .before .before .before .before .before .before .before in step .step-line .kept .1 .1 .1 .1 .1 .1 .1 .1 .1 .0 ∙ step .before .before .before .before .before .before .before .before .before .before .before .before .before .before .loop .inv .6)  -- same-length-6
+    (λ c. let step = c .before .before .before .before .before .before .before .before .before .before .before .before .before .before .before .before .before in step .step-line .kept .1 .1 .1 .1 .1 .1 .1 .1 .1 .1 .0 ∙ step .before .before .before .before .before .before .before .before .before .before .before .before .before .before .loop .inv .7)  -- same-length-7
     returns
     add-at
     add-line
     loop-less
     loop-again
-    same-length-7
-    same-length-8
-    same-length-9
-    same-length-10
-    same-length-11
-    same-length-12
+    (λ c. search needs)  -- same-length-8
+    (λ c. search needs)  -- same-length-9
+    (λ c. search needs)  -- same-length-10
+    (λ c. search needs)  -- same-length-11
+    (λ c. search needs)  -- same-length-12
+    (λ c. search needs)  -- same-length-13
+    (λ c. search needs)  -- same-length-14
     returns-2)

@@ -2,7 +2,7 @@
 use mathlib.Core.Path.{ap}
 use Rattle.layout.specs.Stage.{ownLine}
 use Rattle.layout.specs.code.Stands.{countOf, itemsOf, dataOf}
-use Rattle.layout.proofs.StageLaws.{items-go, items-stopped, stored-go, stored-stopped, bss-go, bss-stopped}
+use Rattle.layout.proofs.StageLaws.{items-go, items-stopped, stored-go, stored-stopped, source-line, bss-go, bss-stopped}
 use borrow.Author.Needs.{needs}
 use Rattle.layout.proofs.stage.own_line.Statement.{statement}
 use Rattle.layout.proofs.stage.own_line.Tie as tie
@@ -12,16 +12,11 @@ text-line-requires c κs =
     let s = c .before .before .before .before .before .before .before .before .before .before in
     (record { it = s .pre .0 .it .items; stands = s .pre .0 .stands .items }, s .pre .1, rw (c .before .before .statement .given .1) at (s .pre .2), s .pre .3)
 
-store-line-requires : tie.Need-store-line-requires
-store-line-requires c κs =
+data-line-requires : tie.Need-data-line-requires
+data-line-requires c κs =
     let s = c .before .before .before .before .before .before .before .before .before .before .before in
     let w = rw (c .before .before .before .statement2 .given .1) at (s .pre .2) in
     (record { it = s .pre .0 .it .stored; stands = s .pre .0 .stands .stored }, s .pre .1, w .1, w .0)
-
-reserve-line-requires : tie.Need-reserve-line-requires
-reserve-line-requires c κs =
-    let s = c .before .before .before .before .before .before .before .before .before .before .before in
-    (record { it = s .pre .0 .it .stored; stands = s .pre .0 .stands .stored }, s .pre .1)
 
 bss-line-requires : tie.Need-bss-line-requires
 bss-line-requires c κs = c .before .before .before .before .before .before .before .before .before .before .pre .0 .stands .bss-limit
@@ -41,46 +36,32 @@ returns-2 c =
     (items-stopped _ _ _ _ _ _ _ _ (m .text-line .ensures) _ (ap itemsOf (c .before .n .given .1)))
 
 returns-3 : tie.Need-returns-3
-unfolding ownLine
 returns-3 c =
     let m = c .before .before .before .before .before .before .before in
-    rw (m .before .before .before .before .statement2 .given .1)
-    (stored-go _ _ _ _ _ _ _ _ (m .store-line .ensures) _ (ap dataOf (c .before .stored2 .given .1)))
+    let read = m .before .before .before .before .statement2 .given in
+    λ σ s. rw (read .1, source-line _ _ _ (read .0 .0) (read .0 .1 .0) σ)
+    (stored-go _ _ _ _ _ _ _ _ (m .data-line .ensures) _ (ap dataOf (c .before .stored2 .given .1)) σ s)
 
 returns-4 : tie.Need-returns-4
-unfolding ownLine
 returns-4 c =
     let m = c .before .before .before .before .before .before .before in
-    rw (m .before .before .before .before .statement2 .given .1)
-    (stored-stopped _ _ _ _ _ _ _ _ (m .store-line .ensures) _ (ap dataOf (c .before .n2 .given .1)))
+    let read = m .before .before .before .before .statement2 .given in
+    λ σ s. rw (read .1, source-line _ _ _ (read .0 .0) (read .0 .1 .0) σ)
+    (stored-stopped _ _ _ _ _ _ _ _ (m .data-line .ensures) _ (ap dataOf (c .before .n2 .given .1)) σ s)
 
 returns-5 : tie.Need-returns-5
 unfolding ownLine
 returns-5 c =
-    let m = c .before .before .before .before .before .before .before in
-    rw (m .before .before .before .before .statement3 .given .1)
-    (stored-go _ _ _ _ _ _ _ _ (m .reserve-line .ensures) _ (ap dataOf (c .before .stored3 .given .1)))
+    let m = c .before .before .before in
+    rw (m .before .before .before .statement3 .given .1)
+    (bss-go _ _ _ _ _ _ (rw (m .before .span-bytes .ensures) at (m .bss-line .ensures)) _ (ap countOf (c .before .bss .given .1)))
 
 returns-6 : tie.Need-returns-6
 unfolding ownLine
 returns-6 c =
-    let m = c .before .before .before .before .before .before .before in
-    rw (m .before .before .before .before .statement3 .given .1)
-    (stored-stopped _ _ _ _ _ _ _ _ (m .reserve-line .ensures) _ (ap dataOf (c .before .n3 .given .1)))
-
-returns-7 : tie.Need-returns-7
-unfolding ownLine
-returns-7 c =
     let m = c .before .before .before in
-    rw (m .before .before .before .statement4 .given .1)
-    (bss-go _ _ _ _ _ _ (rw (m .before .span-bytes .ensures) at (m .bss-line .ensures)) _ (ap countOf (c .before .bss .given .1)))
-
-returns-8 : tie.Need-returns-8
-unfolding ownLine
-returns-8 c =
-    let m = c .before .before .before in
-    rw (m .before .before .before .statement4 .given .1)
-    (bss-stopped _ _ _ _ _ _ (rw (m .before .span-bytes .ensures) at (m .bss-line .ensures)) _ (ap countOf (c .before .n4 .given .1)))
+    rw (m .before .before .before .statement3 .given .1)
+    (bss-stopped _ _ _ _ _ _ (rw (m .before .span-bytes .ensures) at (m .bss-line .ensures)) _ (ap countOf (c .before .n3 .given .1)))
 
 pub own-line-spec : {M : Type 1} → statement M
 own-line-spec =
@@ -91,18 +72,14 @@ own-line-spec =
     (λ c. search needs)  -- enum-known-items
     (λ c. search needs)  -- enum-known-n
     (λ c. search needs)  -- enum-known-statement-2
-    store-line-requires
+    data-line-requires
     (λ c. search needs)  -- enum-known-stored
     (λ c. search needs)  -- enum-known-n-2
     (λ c. search needs)  -- enum-known-statement-3
-    reserve-line-requires
-    (λ c. search needs)  -- enum-known-stored-2
-    (λ c. search needs)  -- enum-known-n-3
-    (λ c. search needs)  -- enum-known-statement-4
     (λ c κs. search needs)  -- span-bytes-requires
     bss-line-requires
     (λ c. search needs)  -- enum-known-bss
-    (λ c. search needs)  -- enum-known-n-4
+    (λ c. search needs)  -- enum-known-n-3
     (λ c. search needs)  -- same-length
     returns
     (λ c. search needs)  -- same-length-2
@@ -113,11 +90,5 @@ own-line-spec =
     (λ c. search needs)  -- same-length-5
     (λ c. search needs)  -- same-length-6
     returns-4
-    (λ c. search needs)  -- same-length-7
-    (λ c. search needs)  -- same-length-8
     returns-5
-    (λ c. search needs)  -- same-length-9
-    (λ c. search needs)  -- same-length-10
-    returns-6
-    returns-7
-    returns-8)
+    returns-6)

@@ -5,7 +5,7 @@ use Rattle.layout_cases.proofs.compare.source_agrees.Statement.{stateme
 use Rattle.layout_cases.proofs.compare.source_agrees.Tie as tie
 
 line-stage-requires : tie.Need-line-stage-requires
-line-stage-requires c κs = (c .before .before .before .before .before .before .before .if1 .left, rw (c .before .before .before .before .before .before .of .ensures) (start-zeros _ 16384 16384 6144 49152 65536))
+line-stage-requires c κs = (c .before .before .before .before .before .before .before .before .if1 .left, rw (c .before .before .before .before .before .before .before .of .ensures) (start-zeros _ 16384 16384 6144 49152 65536))
 
 pub source-agrees-spec : {M : Type 1} → statement M
 source-agrees-spec =
@@ -19,6 +19,7 @@ source-agrees-spec =
     (λ c. search needs)  -- slice-aggregate-line-stage-4
     (λ c. search needs)  -- slice-aggregate-line-stage-5
     (λ c. search needs)  -- slice-aggregate-line-stage-6
+    (λ c. search needs)  -- slice-aggregate-line-stage-7
     line-stage-requires
     (λ c. search needs)  -- enum-known-st
     (λ c. search needs)  -- slice-aggregate-through-agrees

@@ -1,0 +1,83 @@
+-- `data::next_number`: a short number, or the operand at a place, by its own span in the text.
+use mathlib.Core.Path.{_≡_, sym, _∙_}
+use lib.IntN.{pos}
+use mir.Syntax.{w64}
+use mir.Val.{SFits}
+use mir.Facts.{toZ-ofZ}
+use denote.Ref.{now}
+use Rattle.numbers.specs.declared.operands.Operand.the-variants.{At}
+use Rattle.numbers.specs.code.Spans.{spanned}
+use Rattle.numbers.specs.code.Cursors.{operandAt}
+use Rattle.layout.proofs.ReadingLaws.{operand-within, operand-first, operand-none, short-first}
+use borrow.Author.Needs.{needs}
+use Rattle.layout.proofs.data.next_number.Statement.{statement}
+use Rattle.layout.proofs.data.next_number.Tie as tie
+
+returns : tie.Need-returns
+returns c =
+    let at-number-write = c .before in
+    let at-v = at-number-write .before .before in
+    let at-short-number = at-v .before .before in
+    let start = at-short-number .before .before .before in
+    let t = now (start .args .text) in
+    let f : SFits w64 (pos (at-v .v .given .0 .0)) = search needs in
+    let short = rw (at-short-number .before .span-bytes .ensures, at-v .v .given .1) at (at-short-number .short-number .ensures) in
+    let is = rw (toZ-ofZ f) at (at-number-write .number-write .ensures t (spanned (spanned t (start .args .part)) (short .operand))) in
+    rw (c .next-of .ensures)
+    (short-first _ _ _ _ _ short (start .args .width) (at-number-write .number-write .result) (is .0) (is .1))
+
+-- the operand that is found
+found : (d : tie.After-known-told2)
+    → operandAt
+    (spanned (now (d .before .before .before .before .before .before .before .before .before .args .text)) (d .before .before .before .before .before .before .before .before .before .args .part))
+    (d .before .before .before .before .before .before .before .before .before .args .at) ≡ At (d .before .operand .given .0 .0) (d .before .operand .given .0 .1 .0)
+found d =
+    rw (d .before .before .before .before .before .before .before .span-bytes .ensures) at
+    (sym (d .before .before .before .operand-at .ensures) ∙ d .before .operand .given .1)
+
+returns-2 : tie.Need-returns-2
+returns-2 c =
+    let at-span-bytes = c .before .before .before .before .before .before in
+    operand-none (at-span-bytes .before .before .args .width) _ _
+    (rw (at-span-bytes .span-bytes .ensures) at (sym (c .before .before .operand-at .ensures) ∙ c .enum-told2 .given .1))
+
+add-t15 : tie.Need-add-t15
+add-t15 c =
+    let at-there = c .before .before in
+    let h = operand-within _ _ _ _ _ (found at-there) (at-there .before .before .before .before .before .before .before .before .before .pre) in
+    search needs
+
+operand-write-requires : tie.Need-operand-write-requires
+operand-write-requires c κs =
+    let at-there = c .before .before in
+    operand-within _ _ _ _ _ (found at-there) (at-there .before .before .before .before .before .before .before .before .before .pre)
+
+returns-3 : tie.Need-returns-3
+returns-3 c =
+    let at-operand-write = c .before in
+    let at-there = at-operand-write .before .before .before in
+    let start = at-there .before .before .before .before .before .before .before .before .before in
+    rw (c .next-of2 .ensures)
+    (operand-first _ _ _ _ _ (found at-there) (start .args .width) (at-operand-write .operand-write .result)
+    (at-operand-write .operand-write .ensures .0) (at-operand-write .operand-write .ensures .1))
+
+pub next-number-spec : {M : Type 1} → statement M
+next-number-spec =
+    tie.close
+    (tie.spec
+    (λ c κs. search needs)  -- span-bytes-requires
+    (λ c κs. search needs)  -- short-number-requires
+    (λ c. search needs)  -- enum-known-v
+    (λ c. search needs)  -- cast-number-write
+    (λ c κs. search needs)  -- number-write-requires
+    (λ c κs. search needs)  -- next-of-requires
+    returns
+    (λ c. search needs)  -- enum-told
+    (λ c κs. search needs)  -- operand-at-requires
+    (λ c. search needs)  -- enum-known-operand
+    (λ c. search needs)  -- enum-told-2
+    returns-2
+    add-t15
+    operand-write-requires
+    (λ c κs. search needs)  -- next-of-requires-2
+    returns-3)

@@ -1,0 +1,186 @@
+-- Short numbers of a data directive: blanks before an operand, digits up to a comma, and what operand they make.
+use Prim.Native.Nat.{ℕ, suc, _+_, _-_, _*_, _^_, _≤_, _<_}
+use mathlib.Core.Path.{_≡_, refl, sym, _∙_, ap}
+use mathlib.Core.List.{List, [], _∷_}
+use mathlib.Core.Bool.{Bool, true, false, not, _&&_, _||_, true≢false}
+use mathlib.Core.Option.{some}
+use native.Mathlib.Nat.{mul-le-mul, add-zero}
+use native.Mathlib.Numerals.{add-one}
+use native.Mathlib.Omega.{arith}
+use lib.Dec.{leb, ltb, eqb}
+use lib.ListN.{length, drop, getD, length-drop}
+use lib.Seq.{drop-cons, drop-drop, getD-drop}
+use lib.IntN.{pos}
+use borrow.Author.Tests.{le-leb, le-ltb, ne-eqb, eqb-true, leb-false, not-false}
+use Rattle.numbers.specs.declared.operands.Operand.{Operand}
+use Rattle.numbers.specs.declared.operands.Operand.the-variants.{At}
+use Rattle.numbers.specs.declared.short.Short.{Short}
+use Rattle.numbers.specs.declared.short.Short.the-variants.{Is, No}
+use Rattle.numbers.specs.Text.{text, byte, leading, leadingSpaces, trimStart, trimmed, indexOf, before, startsWith}
+use Rattle.numbers.specs.Numbers.{digitOf, allDigits, digitsFrom, digitsOf, positiveOf, signedDigits, prefixed, outerSigned, literalOf, imm64Of}
+use Rattle.numbers.specs.code.Cursors.{operandAt}
+use Rattle.numbers.specs.code.Shorts.{DigitsMean, DigitsOf, ShortMeans, ShortOf}
+use Rattle.numbers.proofs.Bools.{and-left, and-right, or-left, or-right}
+use Rattle.numbers.proofs.Prefixes.{prefix-splits, two-bytes}
+use Rattle.numbers.proofs.Places.{index-within, before-length}
+use Rattle.numbers.proofs.Parts.{partSpan, part-text}
+use Rattle.numbers.proofs.Values.{digit-more, digits-within, digits-start, digits-all, digits-end}
+use Rattle.numbers.proofs.Readings.{digits-larger}
+use Rattle.numbers.proofs.SpacedNumbers.{number-stays}
+
+-- what stands in t up to its first comma, as the operand at a place
+abbrev found : ℕ → List ℕ → Operand
+found at t =
+    At (record { start = at + leadingSpaces (before (byte ",") t); len = length (trimmed (before (byte ",") t)) }) (suc (at + indexOf (byte ",") t))
+
+-- after a blank it is the same, one place further on
+blank-first : (at : ℕ) (t : List ℕ) → found (at + 1) t ≡ found at (32 ∷ t)
+unfolding before indexOf leading trimmed trimStart
+blank-first at t =
+    let move : (n : ℕ) → at + 1 + n ≡ at + suc n = λ n. omega arith in
+    rw (move (leadingSpaces (before (byte ",") t)), move (indexOf (byte ",") t)) refl
+
+-- a blank before an operand is no part of it
+pub blank-more : (s : List ℕ) (at : ℕ) → at < length s → getD s at 0 ≡ 32 → operandAt s (at + 1) ≡ operandAt s at
+unfolding operandAt
+blank-more s at h e =
+    let d : drop at s ≡ 32 ∷ drop (at + 1) s = rw (add-one at, drop-cons s at 0 h, e) refl in
+    rw (le-leb (at + 1) (length s) (omega arith), le-leb at (length s) (omega arith), d) (blank-first at (drop (at + 1) s))
+
+-- a value that may have a digit more stays below 2^31 with it
+pub more-small : (base v d : ℕ) → base ≤ 16 → v ≤ 134217727 → d < base → v * base + d < 2 ^ 31
+more-small base v d b h k = let m : v * base ≤ 134217727 * 16 = mul-le-mul h b in omega arith
+
+-- the byte at i of s, whose digit is d, after digits of the value v
+module _ (base v : ℕ) (s : List ℕ) (i d : ℕ) (b : base ≤ 16) (h : i < length s) (e : d ≡ digitOf (getD s i 0)) (k : d < base) where
+  -- it is no comma
+  pub no-comma : getD s i 0 ≡ byte "," → ⊥
+  no-comma c = omega (arith, rw c at e)
+
+  -- the digits up to the comma go on
+  pub run-more : (limit : ℕ)
+      → digitsFrom base limit (v * base + d) (before (byte ",") (drop (i + 1) s)) ≡ digitsFrom base limit v (before (byte ",") (drop i s))
+  unfolding before indexOf
+  run-more limit = rw (add-one i, drop-cons s i 0 h, ne-eqb _ _ no-comma) (digit-more base limit v _ _ d e k)
+
+-- the code's test at a byte that is no digit: a comma, and not at the start
+pub comma-after : (b i first : ℕ) → not (eqb b (byte ",")) || leb i first ≡ false → (b ≡ byte ",") × (first < i)
+comma-after b i first e =
+    let yes = not-false (eqb b (byte ",")) (or-left (not (eqb b (byte ","))) (leb i first) e) in
+    (eqb-true b (byte ",") yes, leb-false i first (or-right (not (eqb b (byte ","))) (leb i first) e))
+
+-- the comma or the end stands at i, and the text from first on is digits up to there
+pub run-end : (base : ℕ) (s : List ℕ) (first v i : ℕ) → first < i → i + indexOf (byte ",") (drop i s) ≡ first + indexOf (byte ",") (drop first s)
+    → indexOf (byte ",") (drop i s) ≡ 0 → v < 2 ^ 31
+    → digitsFrom base (2 ^ 31 - 1) v (before (byte ",") (drop i s)) ≡ digitsFrom base (2 ^ 31 - 1) 0 (before (byte ",") (drop first s))
+    → DigitsMean base s first v (i + 1)
+unfolding before
+run-end base s first v i f p z h e =
+    record {
+      value = sym (digits-start base _ _ (λ n. omega (arith, n, before-length (byte ",") (drop first s)))) ∙ sym e ∙ rw z (digits-end base _ v [] 0 (omega arith) (omega arith));
+      after = omega arith;
+    }
+
+-- a text that is not all digits begins no text that is
+no-digits-prefix : (base : ℕ) (p s : List ℕ) → allDigits base p ≡ false → allDigits base s ≡ true → startsWith p s ≡ false
+unfolding allDigits startsWith
+no-digits-prefix base [] s f h = absurd (true≢false f)
+no-digits-prefix base (y ∷ p) [] f h = refl
+no-digits-prefix base (y ∷ p) (x ∷ s) f h = go (eqb x y) refl (λ g. no-digits-prefix base p s g (and-right (ltb (digitOf x) base) (allDigits base s) h))
+  where
+    go : (t : Bool) → eqb x y ≡ t → (allDigits base p ≡ false → startsWith p s ≡ false) → t && startsWith p s ≡ false
+    go false e ih = refl
+    go true e ih =
+        let d : ltb (digitOf y) base ≡ true = rw (← eqb-true x y e) (and-left (ltb (digitOf x) base) (allDigits base s) h) in
+        ih (rw d at f)
+
+-- digits alone have no sign of their own
+digits-signed : (base : ℕ) (s : List ℕ) → base ≤ 16 → allDigits base s ≡ true → signedDigits base s ≡ positiveOf (digitsOf base (2 ^ 63 - 1) s)
+unfolding signedDigits allDigits
+digits-signed base s b h =
+    let no : ltb 16 base && true ≡ false = rw (le-ltb 16 base b) refl in
+    rw (no-digits-prefix base (text "-") s no h, no-digits-prefix base (text "+") s no h) refl
+
+-- decimal digits alone are a number without sign or prefix, and no character literal
+decimal-plain : (s : List ℕ) → allDigits 10 s ≡ true → (outerSigned s ≡ positiveOf (digitsOf 10 (2 ^ 63 - 1) s)) × (startsWith (text "'") s ≡ false)
+unfolding outerSigned prefixed allDigits
+decimal-plain s h =
+    let no : (p : List ℕ) → allDigits 10 p ≡ false → startsWith p s ≡ false = λ p f. no-digits-prefix 10 p s f h in (
+      rw (
+        no (text "-") refl,
+        no (text "+") refl,
+        no (text "0x") refl,
+        no (text "0X") refl,
+        no (text "0b") refl,
+        no (text "0B") refl,
+      )
+          (digits-signed 10 s (omega arith) h),
+      no (text "'") refl,
+    )
+
+-- `0x` and digits
+hex-plain : (s : List ℕ) → allDigits 16 s ≡ true → outerSigned (48 ∷ 120 ∷ s) ≡ positiveOf (digitsOf 16 (2 ^ 63 - 1) s)
+unfolding outerSigned prefixed startsWith
+hex-plain s h = digits-signed 16 s (omega arith) h
+
+-- an operand that is a number
+short-at : (s : List ℕ) (at v next : ℕ) → at ≤ length s → v < 2 ^ 31 → next ≡ suc (at + indexOf (byte ",") (drop at s))
+    → outerSigned (before (byte ",") (drop at s)) ≡ some (pos v) → startsWith (text "'") (before (byte ",") (drop at s)) ≡ false
+    → ShortMeans s at v next
+unfolding operandAt imm64Of literalOf
+short-at s at v next h small e reads quote =
+    let stays = number-stays (before (byte ",") (drop at s)) (pos v) reads in
+    record {
+      operand = partSpan s at;
+      found = rw (le-leb at (length s) h, e) refl;
+      reads = rw (part-text s at, stays, stays, quote) reads;
+      small = small;
+    }
+
+-- digits up to the comma have a value below the limit, and stand within the text
+run-bounds : (base : ℕ) (s : List ℕ) (first v next : ℕ) → DigitsMean base s first v next → (first ≤ length s) × (v < 2 ^ 31)
+run-bounds base s first v next m =
+    let bytes = digits-all base _ _ v (m .value) .0 in
+    (omega (arith, before-length (byte ",") (drop first s), index-within (byte ",") (drop first s), length-drop first s), omega (arith, digits-within base _ _ v (m .value)))
+
+-- decimal digits up to the comma are the operand
+decimal-number : (s : List ℕ) (at v next : ℕ) → DigitsMean 10 s at v next → ShortMeans s at v next
+decimal-number s at v next m =
+    let bounds = run-bounds 10 s at v next m in
+    let plain = decimal-plain (before (byte ",") (drop at s)) (digits-all 10 _ _ v (m .value) .1) in
+    short-at s at v next (bounds .0) (bounds .1) (m .after) (plain .0 ∙ ap positiveOf (digits-larger 10 _ (2 ^ 63 - 1) _ v (omega arith) (m .value))) (plain .1)
+
+-- the two bytes of `0x` at a place
+pub hex-bytes : (s : List ℕ) (at : ℕ) → at + 2 ≤ length s → startsWith (text "0x") (drop at s) ≡ eqb (getD s at 0) 48 && eqb (getD s (at + 1) 0) 120
+hex-bytes s at h = rw (two-bytes 48 120 (drop at s) (rw (length-drop at s) (omega arith)), getD-drop, getD-drop, add-zero) refl
+
+-- `0x` at a place is the start of the operand there
+hex-part : (s : List ℕ) (at : ℕ) → startsWith (text "0x") (drop at s) ≡ true
+    → (before (byte ",") (drop at s) ≡ 48 ∷ 120 ∷ before (byte ",") (drop (at + 2) s)) × (indexOf (byte ",") (drop at s) ≡ suc (suc (indexOf (byte ",") (drop (at + 2) s))))
+unfolding before indexOf
+hex-part s at h = rw (prefix-splits (text "0x") (drop at s) h, drop-drop 2 at s) (refl, refl)
+
+-- and so are `0x` and digits
+hex-number : (s : List ℕ) (at v next : ℕ) → startsWith (text "0x") (drop at s) ≡ true → DigitsMean 16 s (at + 2) v next → ShortMeans s at v next
+unfolding startsWith
+hex-number s at v next h m =
+    let bounds = run-bounds 16 s (at + 2) v next m in
+    let part = hex-part s at h in
+    let plain = hex-plain (before (byte ",") (drop (at + 2) s)) (digits-all 16 _ _ v (m .value) .1) in
+    short-at s at v next (omega arith) (bounds .1) (omega (arith, m .after))
+    (rw (part .0) (plain ∙ ap positiveOf (digits-larger 16 _ (2 ^ 63 - 1) _ v (omega arith) (m .value))))
+    (rw (part .0) refl)
+
+-- the operand after the blanks is the operand
+later : (s : List ℕ) (at first v next : ℕ) → operandAt s first ≡ operandAt s at → ShortMeans s first v next → ShortMeans s at v next
+later s at first v next e m = record { operand = m .operand; found = sym e ∙ m .found; reads = m .reads; small = m .small }
+
+-- the code's two answers
+module _ (s : List ℕ) (at first : ℕ) (e : operandAt s first ≡ operandAt s at) where
+  pub decimal-short : (r : Short) → DigitsOf 10 s first r → ShortOf s at r
+  decimal-short (Is v next) m = later s at first v next e (decimal-number s first v next m)
+  decimal-short No m = tt
+
+  pub hex-short : startsWith (text "0x") (drop first s) ≡ true → (r : Short) → DigitsOf 16 s (first + 2) r → ShortOf s at r
+  hex-short h (Is v next) m = later s at first v next e (hex-number s first v next h m)
+  hex-short h No m = tt
