@@ -5,7 +5,6 @@
 
 mod cases;
 mod encoder;
-mod falcon;
 mod gnu;
 mod layout;
 mod numbers;
@@ -16,6 +15,7 @@ use std::path::Path;
 use std::process::ExitCode;
 use std::{env, fs, io};
 
+use differential::falcon;
 use falcon::asm::assembler::assemble;
 
 const USAGE: &str = "usage: differential numbers DIR
