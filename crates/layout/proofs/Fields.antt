@@ -1,7 +1,7 @@
 -- Every field of a record fits its bytes, every count its limit and what is lent, so that each buffer keeps the length that was lent.
 use Prim.Native.Nat.{ℕ, suc, _+_, _-_, _*_, _^_, min, _≤_, _<_}
 use mathlib.Core.Path.{_≡_, refl, sym, _∙_, ap}
-use mathlib.Core.List.{List, [], _∷_, _++_, map, List·Permᴰ, List·Permᴰ·nil, List·Permᴰ·cons, List·Permᴰ·swap, List·Permᴰ·trans, Permᴰ·refl}
+use mathlib.Core.List.{List, [], _∷_, _++_, map, List·Permᴰ}
 use mathlib.Core.Bool.{Bool, true, false, cond, not}
 use mathlib.Core.Option.{Option, none, some}
 use native.Mathlib.Nat.{zero-add, zero-mul, suc-mul}
@@ -26,51 +26,23 @@ use Rattle.layout.specs.Statements.{exprText}
 use Rattle.layout.specs.Pseudos.{itemKind}
 use Rattle.layout.specs.State.{Equate, ItemLine, LabelWord, State, start}
 use Rattle.layout.specs.Stage.{isLabel, lineStage}
-use Rattle.layout.specs.Addresses.{LabelAt, placed, lessLabel, insert, ordered, addressAt, sectionStart, labelAddress, fillOne, fill}
+use Rattle.layout.specs.Addresses.{placed, ordered, addressAt, sectionStart, labelAddress, fillOne, fill}
 use Rattle.layout.specs.Expressions.{Token, plus, minus, dot, number, name, unreadable, tokens, anyUnreadable, Evaluated, positive, negative}
 use Rattle.layout.specs.Expressions.{Wanted, term, joint, onFit, addTerm, onName, sumFrom, evaluate}
 use Rattle.layout.specs.Rounds.{Known, pendingEquate, constant, look, isSome, turn, Turns}
-use Rattle.layout.specs.Records.{Field, fieldBytes, labelRecord, labelFields, equateRecord, equateFields, itemRecord, itemFields, tableOf}
+use Rattle.layout.specs.Records.{Field, fieldBytes, equateRecord, equateFields, itemRecord, itemFields, tableOf}
 use Rattle.layout.specs.Layouts.{EquateAt, ItemAt, Layout, emission, Emitted, itemAt, emit, foundEquates, refuseIf, checkBytes}
 use Rattle.layout.specs.Layouts.{resolve, layout, afterLines, layoutOf, Counts, Buffers, Answer, answerOf, callOf}
 use Rattle.layout.specs.code.Places.{sectionLimit, PlaceFits}
 use Rattle.layout.specs.code.Fits.{Each, Inside, LabelFits, EquateFits, ItemFits, LabelWordFits, Fits, reservedIn}
+use Rattle.layout.specs.code.Orders.{labelRow, LabelAtFits}
 use Rattle.layout.proofs.Each.{_and_, each-append, each-weaker, each-map, each-mapped, each-any}
 use Rattle.layout.proofs.Gives.{Comes, comes-so, and-then-comes}
 use Rattle.layout.proofs.ByteLaws.{length-le, length-put, length-padded}
 use Rattle.layout.proofs.Emissions.{IsWord, WordsFit, PseudoRefusal, emission-fits}
 use Rattle.layout.proofs.Kept.{stage-fits}
+use Rattle.layout.proofs.OrderLaws.{ordered-permutes, permuted-length, permuted-each}
 use Rattle.layout.proofs.Ending.{AtEquate, Resolved, Ended, triangle, pending-all, equates-all, all-end}
-
--- ---- labels in order
-
--- ordering changes their order only
-pub insert-permutes : (x : LabelAt) (ys : List LabelAt) → List·Permᴰ (insert x ys) (x ∷ ys)
-unfolding insert
-insert-permutes x [] = Permᴰ·refl (x ∷ [])
-insert-permutes x (y ∷ ys) = by (lessLabel x y) (insert-permutes x ys)
-  where
-    by : (c : Bool) → List·Permᴰ (insert x ys) (x ∷ ys) → List·Permᴰ (elim c [ true ↦ x ∷ y ∷ ys | false ↦ y ∷ insert x ys ]) (x ∷ y ∷ ys)
-    by true p = Permᴰ·refl (x ∷ y ∷ ys)
-    by false p = List·Permᴰ·trans (List·Permᴰ·cons refl p) (List·Permᴰ·swap refl refl)
-
-pub ordered-permutes : (xs : List LabelAt) → List·Permᴰ (ordered xs) xs
-unfolding ordered
-ordered-permutes [] = List·Permᴰ·nil
-ordered-permutes (x ∷ xs) = List·Permᴰ·trans (insert-permutes x (ordered xs)) (List·Permᴰ·cons refl (ordered-permutes xs))
-
--- what has another order has as many elements, and what each has
-permuted-length : {A : Type 0} {xs ys : List A} → List·Permᴰ xs ys → length xs ≡ length ys
-permuted-length List·Permᴰ·nil = refl
-permuted-length (List·Permᴰ·cons e p) = ap suc (permuted-length p)
-permuted-length (List·Permᴰ·swap e f) = refl
-permuted-length (List·Permᴰ·trans p q) = permuted-length p ∙ permuted-length q
-
-permuted-each : {A : Type 0} {xs ys : List A} (P : A → Type 0) → List·Permᴰ xs ys → Each P ys → Each P xs
-permuted-each P List·Permᴰ·nil g = tt
-permuted-each P (List·Permᴰ·cons e p) g = (rw e (g .0), permuted-each P p (g .1))
-permuted-each P (List·Permᴰ·swap e f) g = (rw e (g .1 .0), (rw f (g .0), g .1 .1))
-permuted-each P (List·Permᴰ·trans p q) g = permuted-each P p (permuted-each P q g)
 
 -- ---- values
 
@@ -134,11 +106,6 @@ turn-fits base σ ks e = by (isLabel (e .name .bytes) (σ .labels)) (isSome (con
     by false false = evaluate-fits (look base σ ks) (pos (addressAt base σ (e .place))) (exprText (e .expr))
 
 -- ---- records
-
-pub record LabelAtFits (t : List ℕ) (l : LabelAt) : Type 0 where
-  pub name : Inside t (l .name)
-  pub address : l .address < 2 ^ 32
-  pub line : l .line < length t
 
 -- of an equate among n
 pub record EquateAtFits (t : List ℕ) (n : ℕ) (e : EquateAt) : Type 0 where
@@ -436,9 +403,6 @@ FieldsFit fs = Each (λ f. f .number < 256 ^ f .width) fs
 bits-below : (z : ℤ) → in64 z ≡ true → bits 64 z < 256 ^ 8
 bits-below (pos n) e = let h : n ≤ 2 ^ 63 - 1 = leb-true n _ e in omega arith
 bits-below (negsuc n) e = omega arith
-
-abbrev pub labelRow : LabelAt → List Field
-labelRow x = labelFields (labelRecord (x .name) (x .address) (x .line))
 
 abbrev pub equateRow : EquateAt → List Field
 equateRow x = equateFields (equateRecord (x .name) (x .line) (x .value) (x .round))

@@ -15,6 +15,9 @@ pub mod LineInside
 pub mod Kept
 pub mod IndexLaws
 pub mod LabelLaws
+pub mod OrderLaws
+pub mod MergeLaws
+pub mod LabelRows
 pub mod EquateLaws
 pub mod ItemLaws
 pub mod StageLaws

@@ -49,7 +49,7 @@ field-at (x ∷ front) f back rest =
 -- ---- records of n bytes one after the other: f gives a record's bytes
 
 module _ {A : Type 0} (f : A → List ℕ) (n : ℕ) (sized : (r : A) → length (f r) ≡ n) where
-  length-records : (rs : List A) → length (together (map f rs)) ≡ length rs * n
+  pub length-records : (rs : List A) → length (together (map f rs)) ≡ length rs * n
   unfolding together
   length-records [] = sym (zero-mul n)
   length-records (r ∷ rs) = simp (length-append, length-records rs, sized r, suc-mul (length rs) n) (omega arith)

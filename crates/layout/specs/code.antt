@@ -10,3 +10,4 @@ pub mod Tables
 pub mod Fits
 pub mod Stands
 pub mod Lent
+pub mod Orders

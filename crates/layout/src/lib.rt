@@ -8,6 +8,7 @@ mod items;
 pub mod labels;
 pub mod limits;
 mod line;
+mod order;
 mod pieces;
 mod pseudo;
 pub mod records;
