@@ -25,6 +25,7 @@ pub mod TurnLaws
 pub mod DataLaws
 pub mod ReadingLaws
 pub mod Ending
+pub mod TokenLaws
 pub mod Emissions
 pub mod Fields
 pub mod Computing

@@ -11,3 +11,4 @@ pub mod Fits
 pub mod Stands
 pub mod Lent
 pub mod Orders
+pub mod Tokens

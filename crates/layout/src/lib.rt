@@ -15,4 +15,5 @@ pub mod records;
 mod scan;
 pub mod stage;
 pub mod state;
+mod tokens;
 mod writers;

@@ -1,0 +1,181 @@
+// The tokens of an expression, read one after the other where they stand: nothing is copied.
+use numbers::imm::parse_signed_prefixed_i64;
+use numbers::ints::Imm64;
+use numbers::text::Span;
+ghost use mathlib.Core.Path.{_≡_};
+ghost use mathlib.Core.List.{List};
+ghost use Prim.Native.Nat.{ℕ, _+_};
+ghost use lib.ListN.{drop};
+ghost use Rattle.numbers.specs.Text.{leading};
+ghost use Rattle.numbers.specs.Numbers.{numberOf};
+ghost use Rattle.layout.specs.Bytes.{isDigit};
+ghost use Rattle.layout.specs.Expressions.{isBlank, isNameByte, isNumberByte, tokens, isUnreadable, anyUnreadable};
+ghost use Rattle.layout.specs.code.Tokens.{tokenOf, numeral, TokenHere, TokenFrom};
+
+pub enum Token {
+    Plus,
+    Minus,
+    Dot,
+    Number(i64),
+    Name(Span),
+    Unreadable,
+}
+
+// The token that was found and the place after it, to go on from, or the end of the text.
+pub enum TokenAt {
+    At(Token, usize),
+    End,
+}
+
+fn is_blank(b: u8) -> bool
+    ensures { λ r. ⌜ r ≡ isBlank b ⌝ }
+{
+    (b == 9) | (b == b'\n') | (b == b'\r') | (b == b' ') | (b == b',')
+}
+
+fn is_digit(b: u8) -> bool
+    ensures { λ r. ⌜ r ≡ isDigit b ⌝ }
+{
+    (b'0' <= b) & (b <= b'9')
+}
+
+fn is_name_byte(b: u8) -> bool
+    ensures { λ r. ⌜ r ≡ isNameByte b ⌝ }
+{
+    (((b'a' <= b) & (b <= b'z')) | ((b'A' <= b) & (b <= b'Z')))
+        | ((b'0' <= b) & (b <= b'9'))
+        | (b == b'_')
+        | (b == b'.')
+        | (b == b'$')
+}
+
+fn is_number_byte(b: u8) -> bool
+    ensures { λ r. ⌜ r ≡ isNumberByte b ⌝ }
+{
+    ((b'0' <= b) & (b <= b'9'))
+        | ((b'a' <= b) & (b <= b'f'))
+        | ((b'A' <= b) & (b <= b'F'))
+        | (b == b'x')
+        | (b == b'X')
+}
+
+// The place of the first byte from a place on that is no blank.
+fn skip_blanks(s: &[u8], at: usize) -> usize
+    ensures { λ r. ⌜ r ≡ at + leading isBlank (drop at (now (s .entry))) ⌝ }
+{
+    let mut i = at;
+    while i < s.len() {
+        if !is_blank(s[i]) {
+            return i;
+        }
+        i += 1;
+    }
+    i
+}
+
+// Where the name that stands at a place ends.
+fn name_end(s: &[u8], at: usize) -> usize
+    ensures { λ r. ⌜ r ≡ at + leading isNameByte (drop at (now (s .entry))) ⌝ }
+{
+    let mut i = at;
+    while i < s.len() {
+        if !is_name_byte(s[i]) {
+            return i;
+        }
+        i += 1;
+    }
+    i
+}
+
+// Where the number that stands at a place ends.
+fn number_end(s: &[u8], at: usize) -> usize
+    ensures { λ r. ⌜ r ≡ at + leading isNumberByte (drop at (now (s .entry))) ⌝ }
+{
+    let mut i = at;
+    while i < s.len() {
+        if !is_number_byte(s[i]) {
+            return i;
+        }
+        i += 1;
+    }
+    i
+}
+
+// The token of a number's bytes.
+fn number_token(run: &[u8]) -> Token
+    ensures { λ r. ⌜ r ≡ numeral (numberOf (now (run .entry))) ⌝ }
+{
+    match parse_signed_prefixed_i64(run) {
+        Imm64::Value(v) => Token::Number(v),
+        Imm64::Invalid => Token::Unreadable,
+    }
+}
+
+// The token at a place where no blank stands.
+fn token_here(s: &[u8], at: usize) -> TokenAt
+    ensures { λ r. ⌜ TokenHere (now (s .entry)) at r ⌝ }
+{
+    if s.len() <= at {
+        return TokenAt::End;
+    }
+    let b = s[at];
+    if b == b'+' {
+        return TokenAt::At(Token::Plus, at + 1);
+    }
+    if b == b'-' {
+        return TokenAt::At(Token::Minus, at + 1);
+    }
+    if is_digit(b) {
+        let end = number_end(s, at);
+        return TokenAt::At(number_token(&s[at..end]), end);
+    }
+    if !is_name_byte(b) {
+        return TokenAt::At(Token::Unreadable, at + 1);
+    }
+    let end = name_end(s, at);
+    let len = end - at;
+    if (b == b'.') & (len == 1) {
+        return TokenAt::At(Token::Dot, end);
+    }
+    TokenAt::At(Token::Name(Span { start: at, len }), end)
+}
+
+// The next token from a place on.
+pub fn next_token(s: &[u8], at: usize) -> TokenAt
+    ensures { λ r. ⌜ TokenFrom (now (s .entry)) at r ⌝ }
+{
+    token_here(s, skip_blanks(s, at))
+}
+
+fn is_unreadable(token: Token) -> bool
+    ensures { λ r. ⌜ ((s : List ℕ) → r ≡ isUnreadable (tokenOf s token)) ⌝ }
+{
+    match token {
+        Token::Plus => false,
+        Token::Minus => false,
+        Token::Dot => false,
+        Token::Number(_) => false,
+        Token::Name(_) => false,
+        Token::Unreadable => true,
+    }
+}
+
+// Is one of the tokens of a text unreadable?
+//
+// The expression of an `.equ` that a blank parts from its name is read with each run of white space as one space (`exprText`,
+// `oneSpaced`): there a run with a byte 11 or 12 is a blank, while here such a byte is unreadable. What is left to show for it is
+// that the tokens of `oneSpaced s` are those of s where every white space is a blank.
+pub fn any_unreadable(s: &[u8]) -> bool
+    ensures { λ r. ⌜ r ≡ anyUnreadable (tokens (now (s .entry))) ⌝ }
+{
+    let mut at = 0;
+    loop {
+        let TokenAt::At(token, after) = next_token(s, at) else {
+            return false;
+        };
+        if is_unreadable(token) {
+            return true;
+        }
+        at = after;
+    }
+}
