@@ -26,6 +26,7 @@ pub mod DataLaws
 pub mod ReadingLaws
 pub mod Ending
 pub mod TokenLaws
+pub mod SpacedTokens
 pub mod Emissions
 pub mod Fields
 pub mod Computing

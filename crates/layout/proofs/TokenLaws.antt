@@ -5,7 +5,6 @@ use mathlib.Core.List.{List, [], _∷_}
 use mathlib.Core.Bool.{Bool, true, false, cond, _&&_, false≢true}
 use mathlib.Core.Option.{Option, none, some}
 use native.Mathlib.Omega.{arith}
-use native.Mathlib.Numerals.{add-one}
 use lib.Dec.{leb, eqb}
 use lib.ListN.{length, take, drop, getD, length-drop, drop-of-length-le}
 use lib.IntN.{ℤ}
@@ -18,34 +17,32 @@ use Rattle.numbers.proofs.Bools.{and-left, and-right}
 use Rattle.numbers.proofs.Trims.{leading-more, leading-within}
 use Rattle.layout.specs.declared.tokens.Token as code
 use Rattle.layout.specs.declared.tokens.Token.the-variants as kind
-use Rattle.layout.specs.declared.tokens.TokenAt.{TokenAt}
-use Rattle.layout.specs.declared.tokens.TokenAt.the-variants.{At, End}
 use Rattle.layout.specs.Bytes.{isDigit}
 use Rattle.layout.specs.Expressions.{Token, name, isBlank, isNameByte, isNumberByte, numberToken, nameToken, scan, tokensIn, tokens}
-use Rattle.layout.specs.Expressions.{isUnreadable, anyUnreadable}
-use Rattle.layout.specs.code.Tokens.{tokenOf, numeral, TokenWithin, TokenStands, TokenHere, tokensFrom, TokenLeads, TokenFrom}
+use Rattle.layout.specs.code.Tokens.{tokenOf, numeral, TokenWithin, TokenStands}
 use Rattle.layout.proofs.Ending.{scan-takes, tokens-fuel}
 
 -- ---- numbers
 
--- from the digits on no byte is white space
-high-no-space : (x : ℕ) → 48 ≤ x → isSpace x ≡ false
+-- past the space no byte is white space
+pub high-no-space : (x : ℕ) → 33 ≤ x → isSpace x ≡ false
 high-no-space x h = rw (ne-eqb x 32 (λ q. omega (arith, q, h)), le-leb 9 x (omega arith), lt-leb x 13 (omega arith)) refl
 
 digit-high : (x : ℕ) → isDigit x ≡ true → 48 ≤ x
 digit-high x e = leb-true 48 x (and-left (leb 48 x) (leb x 57) e)
 
 -- a number's bytes stand from the digits on
+pub low-no-number : (x : ℕ) → x < 48 → isNumberByte x ≡ false
+low-no-number x h =
+    let other : (b : ℕ) → 48 ≤ b → eqb x b ≡ false = λ b k. ne-eqb x b (λ q. omega (arith, q, h, k)) in
+    rw (lt-leb 48 x h, lt-leb 97 x (omega arith), lt-leb 65 x (omega arith), other 120 (omega arith), other 88 (omega arith)) refl
+
 number-byte-high : (x : ℕ) → isNumberByte x ≡ true → 48 ≤ x
 number-byte-high x e = go (leb 48 x) refl
   where
     go : (t : Bool) → leb 48 x ≡ t → 48 ≤ x
     go true h = leb-true 48 x h
-    go false h =
-        let low = leb-false 48 x h in
-        let none-of : isNumberByte x ≡ false =
-        rw (h, lt-leb 97 x (omega arith), lt-leb 65 x (omega arith), ne-eqb x 120 (λ q. omega (arith, q, low)), ne-eqb x 88 (λ q. omega (arith, q, low))) refl in
-        absurd (false≢true (sym none-of ∙ e))
+    go false h = absurd (false≢true (sym (low-no-number x (leb-false 48 x h)) ∙ e))
 
 -- before any text a byte that is no white space is kept
 other-kept : (x : ℕ) (r : List ℕ) → isSpace x ≡ false → consTrimmed x r ≡ x ∷ r
@@ -62,14 +59,14 @@ run-kept (x ∷ xs) = go (isNumberByte x) refl (run-kept xs)
     k = leading isNumberByte xs
 
     go : (t : Bool) → isNumberByte x ≡ t → trimEnd (take k xs) ≡ take k xs → trimEnd (take (cond t (suc k) 0) (x ∷ xs)) ≡ take (cond t (suc k) 0) (x ∷ xs)
-    go true e h = ap (consTrimmed x) h ∙ other-kept x (take k xs) (high-no-space x (number-byte-high x e))
+    go true e h = ap (consTrimmed x) h ∙ other-kept x (take k xs) (high-no-space x (omega (arith, number-byte-high x e)))
     go false e h = refl
 
 -- a number that begins with a digit and ends with no white space has no sign before its prefix, and nothing is trimmed
 unsigned-number : (x : ℕ) (xs : List ℕ) → 48 ≤ x → trimEnd (x ∷ xs) ≡ x ∷ xs → numberOf (x ∷ xs) ≡ prefixed (x ∷ xs)
 unfolding numberOf trimmed trimStart outerSigned startsWith
 unsigned-number x xs h k =
-    rw (high-no-space x h, k, ne-eqb x 45 (λ q. omega (arith, q, h)), ne-eqb x 43 (λ q. omega (arith, q, h))) refl
+    rw (high-no-space x (omega arith), k, ne-eqb x 45 (λ q. omega (arith, q, h)), ne-eqb x 43 (λ q. omega (arith, q, h))) refl
 
 run-first : (b : ℕ) (bs : List ℕ) → isNumberByte b ≡ true → leading isNumberByte (b ∷ bs) ≡ suc (leading isNumberByte bs)
 unfolding leading
@@ -193,12 +190,12 @@ module _ (s : List ℕ) (at : ℕ) (h : at < length s) where
 -- ---- one after the other
 
 -- of no bytes there is no token
-none-in : (n : ℕ) → tokensIn n [] ≡ []
+pub none-in : (n : ℕ) → tokensIn n [] ≡ []
 unfolding tokensIn
 none-in zero = refl
 none-in (suc n) = refl
 
-unroll : (n b : ℕ) (bs : List ℕ) → tokensIn (suc n) (b ∷ bs)
+pub unroll : (n b : ℕ) (bs : List ℕ) → tokensIn (suc n) (b ∷ bs)
     ≡ scan b (b ∷ bs) .token ∷ tokensIn n (drop (leading isBlank (drop (scan b (b ∷ bs) .size) (b ∷ bs))) (drop (scan b (b ∷ bs) .size) (b ∷ bs)))
 unfolding tokensIn
 unroll n b bs = refl
@@ -210,15 +207,14 @@ unroll-at n s k h size e =
     ∙ ap (λ z. scan (getD s k 0) (drop k s) .token ∷ tokensIn n (drop (leading isBlank (drop z (drop k s))) (drop z (drop k s)))) (sym e)
 
 -- a token takes a byte at least
-stands-further : (s : List ℕ) (k : ℕ) (t : code.Token) (after : ℕ) → TokenStands s k t after → k < after
+pub stands-further : (s : List ℕ) (k : ℕ) (t : code.Token) (after : ℕ) → TokenStands s k t after → k < after
 stands-further s k t after w =
     let one : 1 ≤ scan (getD s k 0) (drop k s) .size = rw (drop-cons s k 0 (w .start)) (scan-takes (getD s k 0) (drop (suc k) s)) in
     omega (arith, w .next, one)
 
 -- the token that stands at a place comes first, then those from the place after it on
 tokens-here : (n : ℕ) (s : List ℕ) (k : ℕ) (t : code.Token) (after : ℕ) → TokenStands s k t after → k < after → length (drop k s) ≤ n
-    → tokensIn n (drop k s) ≡ tokenOf s t ∷ tokensFrom s after
-unfolding tokensFrom
+    → tokensIn n (drop k s) ≡ tokenOf s t ∷ tokens (drop after s)
 tokens-here n s k t after w f h =
     let l : ℕ = length (drop k s) in
     let rest = drop after s in
@@ -242,44 +238,10 @@ module _ (s : List ℕ) (at k : ℕ) (e : k ≡ at + leading isBlank (drop at s)
   fewer-there : length (drop k s) ≤ length (drop at s)
   fewer-there = omega (arith, e, length-drop k s, length-drop at s)
 
-  none-from : length s ≤ k → tokensFrom s at ≡ []
-  unfolding tokensFrom
-  none-from h =
-      ap (tokensIn (length (drop at s))) (blanks-there ∙ drop-of-length-le s h)
-      ∙ none-in (length (drop at s))
+  pub none-from : length s ≤ k → tokens (drop at s) ≡ []
+  none-from h = ap (tokensIn (length (drop at s))) (blanks-there ∙ drop-of-length-le s h) ∙ none-in (length (drop at s))
 
-  leads-from : (t : code.Token) (after : ℕ) → TokenStands s k t after → k < after → TokenLeads s at t after
-  unfolding tokensFrom
-  leads-from t after w f = record {
-    leads = ap (tokensIn (length (drop at s))) blanks-there ∙ tokens-here (length (drop at s)) s k t after w f fewer-there;
-    further = omega (arith, e, f);
-    within = w .within;
-    named = w .named;
-  }
-
-  -- what stands there is the first token from the place on
-  pub from-here : (r : TokenAt) → TokenHere s k r → TokenFrom s at r
-  from-here (At t after) w = leads-from t after w (stands-further s k t after w)
-  from-here End h = none-from h
-
--- ---- unreadable tokens
-
--- from the start on there are all
-pub unreadable-start : (s : List ℕ) → anyUnreadable (tokensFrom s 0) ≡ anyUnreadable (tokens s)
-unfolding tokensFrom
-unreadable-start s = refl
-
--- no token, none unreadable
-pub unreadable-end : (s : List ℕ) (at : ℕ) → tokensFrom s at ≡ [] → anyUnreadable (tokensFrom s at) ≡ false
-unfolding anyUnreadable
-unreadable-end s at e = ap anyUnreadable e
-
--- the first is, or what is left decides
-module _ (s : List ℕ) (at : ℕ) (t : code.Token) (after : ℕ) (l : TokenLeads s at t after) where
-  pub unreadable-first : isUnreadable (tokenOf s t) ≡ true → anyUnreadable (tokensFrom s at) ≡ true
-  unfolding anyUnreadable
-  unreadable-first e = ap anyUnreadable (l .leads) ∙ rw e refl
-
-  pub unreadable-next : isUnreadable (tokenOf s t) ≡ false → anyUnreadable (tokensFrom s at) ≡ anyUnreadable (tokensFrom s after)
-  unfolding anyUnreadable
-  unreadable-next e = ap anyUnreadable (l .leads) ∙ rw e refl
+  pub leads-from : (t : code.Token) (after : ℕ) → TokenStands s k t after → tokens (drop at s) ≡ tokenOf s t ∷ tokens (drop after s)
+  leads-from t after w =
+      ap (tokensIn (length (drop at s))) blanks-there
+      ∙ tokens-here (length (drop at s)) s k t after w (stands-further s k t after w) fewer-there

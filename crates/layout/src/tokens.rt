@@ -2,6 +2,7 @@
 use numbers::imm::parse_signed_prefixed_i64;
 use numbers::ints::Imm64;
 use numbers::text::Span;
+use numbers::text::is_space;
 ghost use mathlib.Core.Path.{_≡_};
 ghost use mathlib.Core.List.{List};
 ghost use Prim.Native.Nat.{ℕ, _+_};
@@ -10,7 +11,7 @@ ghost use Rattle.numbers.specs.Text.{leading};
 ghost use Rattle.numbers.specs.Numbers.{numberOf};
 ghost use Rattle.layout.specs.Bytes.{isDigit};
 ghost use Rattle.layout.specs.Expressions.{isBlank, isNameByte, isNumberByte, tokens, isUnreadable, anyUnreadable};
-ghost use Rattle.layout.specs.code.Tokens.{tokenOf, numeral, TokenHere, TokenFrom};
+ghost use Rattle.layout.specs.code.Tokens.{tokenOf, numeral, spacedIn, blankIn, TokenHere, TokenFrom};
 
 pub enum Token {
     Plus,
@@ -59,13 +60,23 @@ fn is_number_byte(b: u8) -> bool
         | (b == b'X')
 }
 
+// The same, where each run of white space may be read as one space: then bytes 11 and 12 are blanks too.
+fn is_blank_in(b: u8, one_space: bool) -> bool
+    ensures { λ r. ⌜ r ≡ blankIn «one_space» b ⌝ }
+{
+    if one_space {
+        return is_space(b) | (b == b',');
+    }
+    is_blank(b)
+}
+
 // The place of the first byte from a place on that is no blank.
-fn skip_blanks(s: &[u8], at: usize) -> usize
-    ensures { λ r. ⌜ r ≡ at + leading isBlank (drop at (now (s .entry))) ⌝ }
+fn skip_blanks(s: &[u8], at: usize, one_space: bool) -> usize
+    ensures { λ r. ⌜ r ≡ at + leading (blankIn «one_space») (drop at (now (s .entry))) ⌝ }
 {
     let mut i = at;
     while i < s.len() {
-        if !is_blank(s[i]) {
+        if !is_blank_in(s[i], one_space) {
             return i;
         }
         i += 1;
@@ -140,11 +151,12 @@ fn token_here(s: &[u8], at: usize) -> TokenAt
     TokenAt::At(Token::Name(Span { start: at, len }), end)
 }
 
-// The next token from a place on.
-pub fn next_token(s: &[u8], at: usize) -> TokenAt
-    ensures { λ r. ⌜ TokenFrom (now (s .entry)) at r ⌝ }
+// The next token from a place on. The expression of an `.equ` that a blank parts from its name is read with one space for each run of
+// white space: its tokens are those of the text itself where all white space is blank.
+pub fn next_token(s: &[u8], at: usize, one_space: bool) -> TokenAt
+    ensures { λ r. ⌜ TokenFrom «one_space» (now (s .entry)) at r ⌝ }
 {
-    token_here(s, skip_blanks(s, at))
+    token_here(s, skip_blanks(s, at, one_space))
 }
 
 fn is_unreadable(token: Token) -> bool
@@ -161,16 +173,12 @@ fn is_unreadable(token: Token) -> bool
 }
 
 // Is one of the tokens of a text unreadable?
-//
-// The expression of an `.equ` that a blank parts from its name is read with each run of white space as one space (`exprText`,
-// `oneSpaced`): there a run with a byte 11 or 12 is a blank, while here such a byte is unreadable. What is left to show for it is
-// that the tokens of `oneSpaced s` are those of s where every white space is a blank.
-pub fn any_unreadable(s: &[u8]) -> bool
-    ensures { λ r. ⌜ r ≡ anyUnreadable (tokens (now (s .entry))) ⌝ }
+pub fn any_unreadable(s: &[u8], one_space: bool) -> bool
+    ensures { λ r. ⌜ r ≡ anyUnreadable (tokens (spacedIn «one_space» (now (s .entry)))) ⌝ }
 {
     let mut at = 0;
     loop {
-        let TokenAt::At(token, after) = next_token(s, at) else {
+        let TokenAt::At(token, after) = next_token(s, at, one_space) else {
             return false;
         };
         if is_unreadable(token) {

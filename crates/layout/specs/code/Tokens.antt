@@ -2,15 +2,18 @@
 use Prim.Native.Nat.{ℕ, _+_, _≤_, _<_}
 use mathlib.Core.Path.{_≡_}
 use mathlib.Core.List.{List, [], _∷_}
+use mathlib.Core.Bool.{Bool, cond}
 use mathlib.Core.Option.{Option, none, some}
 use lib.ListN.{length, drop, getD}
 use lib.IntN.{ℤ}
+use Rattle.numbers.specs.Text.{oneSpaced}
 use Rattle.numbers.specs.code.Spans.{spanned}
+use Rattle.numbers.specs.code.Cursors.{isSeparator}
 use Rattle.layout.specs.declared.tokens.Token as code
 use Rattle.layout.specs.declared.tokens.Token.the-variants as kind
 use Rattle.layout.specs.declared.tokens.TokenAt.{TokenAt}
 use Rattle.layout.specs.declared.tokens.TokenAt.the-variants.{At, End}
-use Rattle.layout.specs.Expressions.{Token, plus, minus, dot, number, name, unreadable, scan, tokens}
+use Rattle.layout.specs.Expressions.{Token, plus, minus, dot, number, name, unreadable, isBlank, scan, tokens}
 use Rattle.layout.specs.code.Spans.{SpanWithin}
 
 -- a token of a text, its name spelled out
@@ -48,17 +51,25 @@ abbrev pub TokenHere : List ℕ → ℕ → TokenAt → Type 0
 TokenHere s at (At t after) = TokenStands s at t after
 TokenHere s at End = length s ≤ at
 
+-- a text as an expression is read: as it stands, or with one space for each run of white space (`exprText`)
+abbrev pub spacedIn : Bool → List ℕ → List ℕ
+spacedIn oneSpace s = cond oneSpace (oneSpaced s) s
+
+-- what is a blank of the text itself in each: in the second all white space
+abbrev pub blankIn : Bool → ℕ → Bool
+blankIn oneSpace b = cond oneSpace (isSeparator b) (isBlank b)
+
 -- the tokens from a place on
-unfoldable pub tokensFrom : List ℕ → ℕ → List Token
-tokensFrom s at = tokens (drop at s)
+unfoldable pub tokensFrom : Bool → List ℕ → ℕ → List Token
+tokensFrom oneSpace s at = tokens (spacedIn oneSpace (drop at s))
 
 -- a token and the place after it: the tokens from a place on are that one and those from there on
-pub record TokenLeads (s : List ℕ) (at : ℕ) (t : code.Token) (after : ℕ) : Type 0 where
-  pub leads : tokensFrom s at ≡ tokenOf s t ∷ tokensFrom s after
+pub record TokenLeads (oneSpace : Bool) (s : List ℕ) (at : ℕ) (t : code.Token) (after : ℕ) : Type 0 where
+  pub leads : tokensFrom oneSpace s at ≡ tokenOf s t ∷ tokensFrom oneSpace s after
   pub further : at < after
   pub within : after ≤ length s
   pub named : TokenWithin s t
 
-abbrev pub TokenFrom : List ℕ → ℕ → TokenAt → Type 0
-TokenFrom s at (At t after) = TokenLeads s at t after
-TokenFrom s at End = tokensFrom s at ≡ []
+abbrev pub TokenFrom : Bool → List ℕ → ℕ → TokenAt → Type 0
+TokenFrom oneSpace s at (At t after) = TokenLeads oneSpace s at t after
+TokenFrom oneSpace s at End = tokensFrom oneSpace s at ≡ []

@@ -1,7 +1,7 @@
 -- `tokens::next_token`: the token that stands after the blanks is the first from the place on.
 use denote.Ref.{now}
 use borrow.Author.Needs.{needs}
-use Rattle.layout.proofs.TokenLaws.{from-here}
+use Rattle.layout.proofs.SpacedTokens.{from-here}
 use Rattle.layout.proofs.tokens.next_token.Statement.{statement}
 use Rattle.layout.proofs.tokens.next_token.Tie as tie
 
@@ -9,7 +9,7 @@ returns : tie.Need-returns
 returns c =
     let a = c .before .before .before .args in
     let k = c .before .skip-blanks in
-    from-here (now (a .s)) (a .at) (k .result) (k .ensures) (c .token-here .result) (c .token-here .ensures)
+    from-here (a .one-space) (now (a .s)) (a .at) (k .result) (k .ensures) (c .token-here .result) (c .token-here .ensures)
 
 pub next-token-spec : {M : Type 1} → statement M
 next-token-spec =

@@ -1,10 +1,9 @@
 -- `tokens::token_here`: the definition makes the code's tests in the code's order; a law for each answer.
-use mathlib.Core.Path.{_≡_, sym, _∙_}
-use native.Mathlib.Omega.{arith}
+use mathlib.Core.Path.{sym, _∙_}
 use denote.Ref.{now}
 use borrow.Author.Needs.{needs}
 use borrow.Author.Tests.{not-true, not-false}
-use Rattle.layout.specs.Expressions.{isNumberByte, isNameByte}
+use Rattle.layout.specs.Expressions.{isNumberByte}
 use Rattle.layout.proofs.TokenLaws.{run-within, plus-stands, minus-stands, number-stands, other-stands, dot-stands, name-stands}
 use Rattle.layout.proofs.tokens.token_here.Statement.{statement}
 use Rattle.layout.proofs.tokens.token_here.Tie as tie
