@@ -27,6 +27,7 @@ pub mod ReadingLaws
 pub mod Ending
 pub mod TokenLaws
 pub mod SpacedTokens
+pub mod Walks
 pub mod Emissions
 pub mod Fields
 pub mod Computing

@@ -4,14 +4,13 @@ use numbers::ints::Imm64;
 use numbers::text::Span;
 use numbers::text::is_space;
 ghost use mathlib.Core.Path.{_≡_};
-ghost use mathlib.Core.List.{List};
-ghost use Prim.Native.Nat.{ℕ, _+_};
+ghost use Prim.Native.Nat.{_+_};
 ghost use lib.ListN.{drop};
 ghost use Rattle.numbers.specs.Text.{leading};
 ghost use Rattle.numbers.specs.Numbers.{numberOf};
 ghost use Rattle.layout.specs.Bytes.{isDigit};
-ghost use Rattle.layout.specs.Expressions.{isBlank, isNameByte, isNumberByte, tokens, isUnreadable, anyUnreadable};
-ghost use Rattle.layout.specs.code.Tokens.{tokenOf, numeral, spacedIn, blankIn, TokenHere, TokenFrom};
+ghost use Rattle.layout.specs.Expressions.{isBlank, isNameByte, isNumberByte};
+ghost use Rattle.layout.specs.code.Tokens.{numeral, blankIn, TokenHere, TokenFrom};
 
 pub enum Token {
     Plus,
@@ -153,37 +152,8 @@ fn token_here(s: &[u8], at: usize) -> TokenAt
 
 // The next token from a place on. The expression of an `.equ` that a blank parts from its name is read with one space for each run of
 // white space: its tokens are those of the text itself where all white space is blank.
-pub fn next_token(s: &[u8], at: usize, one_space: bool) -> TokenAt
+pub fn token_at(s: &[u8], at: usize, one_space: bool) -> TokenAt
     ensures { λ r. ⌜ TokenFrom «one_space» (now (s .entry)) at r ⌝ }
 {
     token_here(s, skip_blanks(s, at, one_space))
-}
-
-fn is_unreadable(token: Token) -> bool
-    ensures { λ r. ⌜ ((s : List ℕ) → r ≡ isUnreadable (tokenOf s token)) ⌝ }
-{
-    match token {
-        Token::Plus => false,
-        Token::Minus => false,
-        Token::Dot => false,
-        Token::Number(_) => false,
-        Token::Name(_) => false,
-        Token::Unreadable => true,
-    }
-}
-
-// Is one of the tokens of a text unreadable?
-pub fn any_unreadable(s: &[u8], one_space: bool) -> bool
-    ensures { λ r. ⌜ r ≡ anyUnreadable (tokens (spacedIn «one_space» (now (s .entry)))) ⌝ }
-{
-    let mut at = 0;
-    loop {
-        let TokenAt::At(token, after) = next_token(s, at, one_space) else {
-            return false;
-        };
-        if is_unreadable(token) {
-            return true;
-        }
-        at = after;
-    }
 }

@@ -1,8 +1,8 @@
--- `tokens::is_unreadable`: each arm knows its token.
+-- `expr::is_unreadable`: each arm knows its token.
 use mathlib.Core.Path.{refl}
 use borrow.Author.Needs.{needs}
-use Rattle.layout.proofs.tokens.is_unreadable.Statement.{statement}
-use Rattle.layout.proofs.tokens.is_unreadable.Tie as tie
+use Rattle.layout.proofs.expr.is_unreadable.Statement.{statement}
+use Rattle.layout.proofs.expr.is_unreadable.Tie as tie
 
 pub is-unreadable-spec : {M : Type 1} → statement M
 is-unreadable-spec =

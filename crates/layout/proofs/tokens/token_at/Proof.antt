@@ -1,9 +1,9 @@
--- `tokens::next_token`: the token that stands after the blanks is the first from the place on.
+-- `tokens::token_at`: the token that stands after the blanks is the first from the place on.
 use denote.Ref.{now}
 use borrow.Author.Needs.{needs}
 use Rattle.layout.proofs.SpacedTokens.{from-here}
-use Rattle.layout.proofs.tokens.next_token.Statement.{statement}
-use Rattle.layout.proofs.tokens.next_token.Tie as tie
+use Rattle.layout.proofs.tokens.token_at.Statement.{statement}
+use Rattle.layout.proofs.tokens.token_at.Tie as tie
 
 returns : tie.Need-returns
 returns c =
@@ -11,8 +11,8 @@ returns c =
     let k = c .before .skip-blanks in
     from-here (a .one-space) (now (a .s)) (a .at) (k .result) (k .ensures) (c .token-here .result) (c .token-here .ensures)
 
-pub next-token-spec : {M : Type 1} → statement M
-next-token-spec =
+pub token-at-spec : {M : Type 1} → statement M
+token-at-spec =
     tie.close
     (tie.spec
     (λ c κs. search needs)  -- skip-blanks-requires
