@@ -7,7 +7,7 @@ use mathlib.Core.Path.{_≡_, refl, sym, ap, ap₂, _∙_}
 use mathlib.Core.List.{List, [], _∷_, _++_, append-assoc, append-nil}
 use lib.ListN.{length, take, drop, getD, set, replicate, length-append, length-drop, length-replicate, drop-of-length-le}
 use lib.Arith.{mod-mul}
-use lib.Seq.{take-all, take-at, drop-at, take-suc, drop-cons, drop-drop, drop-append-add, set-at, length-take-le, append-snoc}
+use lib.Seq.{take-all, take-at, drop-at, take-suc, drop-cons, drop-drop, take-append-le, drop-append-le, drop-append-add, set-at, length-take-le, append-snoc}
 use Rattle.layout.specs.Bytes.{le, put, padded}
 use Rattle.layout.specs.code.Tables.{leValue}
 
@@ -78,6 +78,14 @@ put-pad n at xs vs e =
     ∙ drop-replicate (length vs) (n - length xs)
     ∙ ap (λ (k : ℕ). replicate k 0) left in
     ap₂ (λ (a b : List ℕ). a ++ vs ++ b) (take-at xs zeros at (sym e)) after
+
+-- stores within what is used leave the zeros after it
+pub put-used : (n at : ℕ) (vs xs : List ℕ) → at + length vs ≤ length xs → put at vs (padded n xs) ≡ padded n (put at vs xs)
+put-used n at vs xs h =
+    let zeros : List ℕ = replicate (n - length xs) 0 in
+    ap₂ (λ (a b : List ℕ). a ++ vs ++ b) (take-append-le at xs zeros (omega arith)) (drop-append-le (at + length vs) xs zeros h)
+    ∙ sym (append-assoc (take at xs ++ vs) (drop (at + length vs) xs) zeros)
+    ∙ ap (λ (k : ℕ). put at vs xs ++ replicate (n - k) 0) (sym (length-put at vs xs h))
 
 -- what a loop that copies src to the front of dst leaves, turn by turn
 pub copied-more : (src dst : List ℕ) (i : ℕ) → i < length src → i < length dst

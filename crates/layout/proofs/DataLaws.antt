@@ -129,7 +129,7 @@ no-word t line p (Text q z) ws h = refl
 no-word t line p (Gap r) ws h = refl
 no-word t line p (Address q) ws h = absurd (miss (0 ∷ 1 ∷ 2 ∷ []) 3 tt h)
 
-label-word-sized : (r : LabelWordRecord) → length (fieldBytes (labelWordFields r)) ≡ labelWordSize
+pub label-word-sized : (r : LabelWordRecord) → length (fieldBytes (labelWordFields r)) ≡ labelWordSize
 unfolding fieldBytes le
 label-word-sized r = refl
 

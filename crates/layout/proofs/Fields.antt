@@ -24,7 +24,7 @@ use Rattle.layout.specs.Refusals.{Refusal, atLine}
 use Rattle.layout.specs.Limits.{baseLimit, textLimit, bssLimit, dataLimit, labelSize, equateSize, itemSize, Lent, roomOf}
 use Rattle.layout.specs.Statements.{exprText}
 use Rattle.layout.specs.Pseudos.{itemKind}
-use Rattle.layout.specs.State.{Equate, ItemLine, LabelWord, State, start}
+use Rattle.layout.specs.State.{Label, Equate, ItemLine, LabelWord, State, start}
 use Rattle.layout.specs.Stage.{isLabel, lineStage}
 use Rattle.layout.specs.Addresses.{placed, ordered, addressAt, sectionStart, labelAddress, fillOne, fill}
 use Rattle.layout.specs.Expressions.{Token, plus, minus, dot, number, name, unreadable, tokens, anyUnreadable, Evaluated, positive, negative}
@@ -227,6 +227,11 @@ place-below base σ p low short h = by (p .section) h
     by section.Data h = omega arith
     by section.Bss h = omega arith
 
+-- so each label fits its record with its address too
+pub placed-fit : (t : List ℕ) (base : ℕ) (σ : State) → base ≤ baseLimit → length (σ .rest .own .stored .bytes) ≤ dataLimit
+    → (l : Label) → LabelFits t l → LabelAtFits t (placed base σ l)
+placed-fit t base σ low short l g = record { name = g .name; address = place-below base σ (l .place) low short (g .place); line = g .line }
+
 -- ---- the equates' records
 
 module _ (t : List ℕ) (base : ℕ) (σ : State) (n : ℕ) where
@@ -278,10 +283,8 @@ module _ (t : List ℕ) (short : length t ≤ textLimit) (base : ℕ) (low : bas
   module _ (σ : State) (f : Fits t (roomOf k) σ) where
     labels-fit : Each (LabelAtFits t) (map (placed base σ) (σ .labels))
     labels-fit =
-        let few : length (σ .rest .own .stored .bytes) ≤ dataLimit = omega (arith, f .rest .own .stored .room) in
-        each-map (LabelFits t) (LabelAtFits t) (placed base σ)
-        (λ l q. record { name = q .name; address = place-below base σ (l .place) low few (q .place); line = q .line })
-        (σ .labels) (f .labels .each)
+        each-map (LabelFits t) (LabelAtFits t) (placed base σ) (placed-fit t base σ low (omega (arith, f .rest .own .stored .room))) (σ .labels)
+        (f .labels .each)
 
     accepted-fits : (bytes : List ℕ) → length bytes ≡ length (σ .rest .own .stored .bytes)
         → (x : Turns) → Ended base σ (length (σ .rest .equates)) (map pendingEquate (σ .rest .equates)) 0 x

@@ -14,6 +14,7 @@ pub mod PseudoLaws
 pub mod LineInside
 pub mod Kept
 pub mod IndexLaws
+pub mod LabelTables
 pub mod LabelLaws
 pub mod OrderLaws
 pub mod MergeLaws
@@ -30,6 +31,8 @@ pub mod SpacedTokens
 pub mod Walks
 pub mod Emissions
 pub mod Fields
+pub mod AddressLaws
+pub mod FixupLaws
 pub mod Computing
 pub mod TwelveCases
 pub mod RecordCases

@@ -7,7 +7,7 @@ use mathlib.Core.List.{List, [], _∷_, _++_, map, append-assoc, append-nil}
 use lib.ListN.{length, take, drop, getD, set, replicate, length-append, length-set}
 use lib.Seq.{take-at, drop-at, drop-drop, drop-append-seam}
 use Rattle.layout.specs.Bytes.{le, put, padded, together}
-use Rattle.layout.specs.Records.{Field, fieldBytes, tableOf}
+use Rattle.layout.specs.Records.{Field, four, fieldBytes, tableOf}
 use Rattle.layout.specs.code.Tables.{leValue, fourAt}
 use Rattle.layout.proofs.ByteLaws.{put-put, put-over, length-padded, put-pad, length-le, le-back}
 
@@ -153,3 +153,15 @@ module _ {A : Type 0} (f : A → List Field) (n : ℕ) (sized : (r : A) → leng
       ap (λ (xs : List ℕ). leValue (take 4 xs)) from
       ∙ ap leValue (field-at front (record { width = 4; number = v }) back rest)
       ∙ le-back v small
+
+  -- so is a kth record of four such fields
+  pub read-row : (b : List ℕ) (rs : List A) (d : A) (k v w x y : ℕ) → b ≡ tableOf (length b) f rs → k < length rs
+      → f (getD rs k d) ≡ four v ∷ four w ∷ four x ∷ four y ∷ [] → v < 2 ^ 32 → w < 2 ^ 32 → x < 2 ^ 32 → y < 2 ^ 32
+      → (fourAt b (k * n) ≡ v) × (fourAt b (k * n + 4) ≡ w) × (fourAt b (k * n + 8) ≡ x) × (fourAt b (k * n + 12) ≡ y)
+  unfolding fieldBytes le
+  read-row b rs d k v w x y is h e sv sw sx sy = (
+    read-four b rs d k (k * n) v [] _ is h e (omega arith) sv,
+    read-four b rs d k (k * n + 4) w (four v ∷ []) _ is h e refl sw,
+    read-four b rs d k (k * n + 8) x (four v ∷ four w ∷ []) _ is h e refl sx,
+    read-four b rs d k (k * n + 12) y (four v ∷ four w ∷ four x ∷ []) _ is h e refl sy,
+  )

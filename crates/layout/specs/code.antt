@@ -12,3 +12,4 @@ pub mod Stands
 pub mod Lent
 pub mod Orders
 pub mod Tokens
+pub mod Placed

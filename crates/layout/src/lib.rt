@@ -1,9 +1,11 @@
 // The layout: from a source to words, data, labels, equates and items.
+pub mod addresses;
 mod bss;
 mod data;
 mod directives;
 mod equates;
 mod expr;
+pub mod fixups;
 mod index;
 mod items;
 pub mod labels;

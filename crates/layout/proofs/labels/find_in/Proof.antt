@@ -6,7 +6,7 @@ use denote.Ref.{now}
 use Rattle.layout.specs.code.Index.{buckets}
 use Rattle.layout.specs.code.Tables.{labelNames}
 use Rattle.layout.proofs.IndexLaws.{bucket-below, Walk, walk-first, walk-less, walk-next, walk-hit, walk-miss}
-use Rattle.layout.proofs.LabelLaws.{names-size, name-listed}
+use Rattle.layout.proofs.LabelTables.{names-size, name-listed}
 use borrow.Author.Needs.{needs}
 use Rattle.layout.proofs.labels.find_in.Statement.{statement}
 use Rattle.layout.proofs.labels.find_in.Tie as tie
