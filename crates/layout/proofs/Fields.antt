@@ -403,7 +403,7 @@ abbrev pub FieldsFit : List Field → Type 0
 FieldsFit fs = Each (λ f. f .number < 256 ^ f .width) fs
 
 -- a value of 64 signed bits fits eight bytes
-bits-below : (z : ℤ) → in64 z ≡ true → bits 64 z < 256 ^ 8
+pub bits-below : (z : ℤ) → in64 z ≡ true → bits 64 z < 256 ^ 8
 bits-below (pos n) e = let h : n ≤ 2 ^ 63 - 1 = leb-true n _ e in omega arith
 bits-below (negsuc n) e = omega arith
 

@@ -18,14 +18,14 @@ use Rattle.layout.specs.code.Index.{buckets, mixed, bucketOf, nameAt, la
 use Rattle.layout.specs.code.Tables.{lookupIn}
 
 -- equal or not; less or not
-by-equal : {A : Type 0} (a b : ℕ) → (a ≡ b → A) → ((a ≡ b → ⊥) → A) → A
+pub by-equal : {A : Type 0} (a b : ℕ) → (a ≡ b → A) → ((a ≡ b → ⊥) → A) → A
 by-equal {A} a b f g = by (eqb a b) refl
   where
     by : (c : Bool) → eqb a b ≡ c → A
     by true e = f (eqb-true a b e)
     by false e = g (eqb-false a b e)
 
-by-less : {A : Type 0} (a b : ℕ) → (a < b → A) → (b ≤ a → A) → A
+pub by-less : {A : Type 0} (a b : ℕ) → (a < b → A) → (b ≤ a → A) → A
 by-less {A} a b f g = by (ltb a b) refl
   where
     by : (c : Bool) → ltb a b ≡ c → A
@@ -99,12 +99,12 @@ not-among (y ∷ ys) n j e i h = by (same y n) refl e (not-among ys n (suc j)) i
 -- ---- a bucket's chain
 
 -- c is what lastIn gives: none from c on is in the bucket, and the one before c is
-record Last (ns : List (List ℕ)) (b m c : ℕ) : Type 0 where
-  le : c ≤ m
-  none-on : (i : ℕ) → c ≤ i → i < m → bucketOf (nameAt ns i) ≡ b → ⊥
-  here : (k : ℕ) → c ≡ suc k → bucketOf (nameAt ns k) ≡ b
+pub record Last (ns : List (List ℕ)) (b m c : ℕ) : Type 0 where
+  pub le : c ≤ m
+  pub none-on : (i : ℕ) → c ≤ i → i < m → bucketOf (nameAt ns i) ≡ b → ⊥
+  pub here : (k : ℕ) → c ≡ suc k → bucketOf (nameAt ns k) ≡ b
 
-last-is : (ns : List (List ℕ)) (b m : ℕ) → Last ns b m (lastIn ns b m)
+pub last-is : (ns : List (List ℕ)) (b m : ℕ) → Last ns b m (lastIn ns b m)
 unfolding lastIn
 last-is ns b zero = record { le = omega arith; none-on = λ i l h e. omega arith; here = λ k e. absurd (omega arith) }
 last-is ns b (suc m) = by (eqb (bucketOf (nameAt ns m)) b) refl (last-is ns b m)
@@ -125,7 +125,7 @@ last-is ns b (suc m) = by (eqb (bucketOf (nameAt ns m)) b) refl (last-is ns b m)
         }
 
 -- names in unlike buckets are not the same
-other-bucket : (a x : List ℕ) → (bucketOf a ≡ bucketOf x → ⊥) → same a x ≡ false
+pub other-bucket : (a x : List ℕ) → (bucketOf a ≡ bucketOf x → ⊥) → same a x ≡ false
 other-bucket a x n = by (same a x) refl
   where
     by : (t : Bool) → same a x ≡ t → t ≡ false

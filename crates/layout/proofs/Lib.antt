@@ -15,6 +15,7 @@ pub mod LineInside
 pub mod Kept
 pub mod IndexLaws
 pub mod LabelTables
+pub mod KnownLaws
 pub mod LabelLaws
 pub mod OrderLaws
 pub mod MergeLaws
@@ -26,6 +27,8 @@ pub mod TurnLaws
 pub mod DataLaws
 pub mod ReadingLaws
 pub mod Ending
+pub mod ScopeLaws
+pub mod TermLaws
 pub mod TokenLaws
 pub mod SpacedTokens
 pub mod Walks
@@ -33,6 +36,8 @@ pub mod Emissions
 pub mod Fields
 pub mod AddressLaws
 pub mod FixupLaws
+pub mod RoundSteps
+pub mod TurnTables
 pub mod Computing
 pub mod TwelveCases
 pub mod RecordCases

@@ -1,6 +1,6 @@
 -- Records of fields, one after the other in a table: written, appended, replaced, and read back.
 use Prim.Native.Nat.{ℕ, zero, suc, _+_, _-_, _*_, _^_, _≤_, _<_}
-use native.Mathlib.Nat.{not-suc-le-zero, le-of-suc-le-suc, zero-mul, suc-mul}
+use native.Mathlib.Nat.{not-suc-le-zero, le-of-suc-le-suc, zero-mul, suc-mul, mod-eq-of-lt}
 use native.Mathlib.Omega.{arith}
 use mathlib.Core.Path.{_≡_, refl, sym, ap, _∙_}
 use mathlib.Core.List.{List, [], _∷_, _++_, map, append-assoc, append-nil}
@@ -8,8 +8,8 @@ use lib.ListN.{length, take, drop, getD, set, replicate, length-append, length-s
 use lib.Seq.{take-at, drop-at, drop-drop, drop-append-seam}
 use Rattle.layout.specs.Bytes.{le, put, padded, together}
 use Rattle.layout.specs.Records.{Field, four, fieldBytes, tableOf}
-use Rattle.layout.specs.code.Tables.{leValue, fourAt}
-use Rattle.layout.proofs.ByteLaws.{put-put, put-over, length-padded, put-pad, length-le, le-back}
+use Rattle.layout.specs.code.Tables.{leValue, fourAt, eightAt}
+use Rattle.layout.proofs.ByteLaws.{put-put, put-over, length-padded, put-pad, length-le, le-value, le-back}
 
 -- ---- fields side by side
 
@@ -137,22 +137,25 @@ module _ {A : Type 0} (f : A → List Field) (n : ℕ) (sized : (r : A) → leng
         ∙ put-record (λ x. fieldBytes (f x)) n sized rs (replicate (length b - length (together (map (λ x. fieldBytes (f x)) rs))) 0) k h r
         ∙ ap (λ (m : ℕ). together (map (λ x. fieldBytes (f x)) (set rs k r)) ++ replicate (length b - m) 0) lengths)
 
-  -- a field of four bytes of the kth record is read back
-  pub read-four : (b : List ℕ) (rs : List A) (d : A) (k at v : ℕ) (front back : List Field) → b ≡ tableOf (length b) f rs → k < length rs
-      → f (getD rs k d) ≡ front ++ (record { width = 4; number = v } ∷ back) → at ≡ k * n + length (fieldBytes front) → v < 2 ^ 32
-      → fourAt b at ≡ v
-  read-four b rs d k at v front back is h e q small =
+  -- a field of w bytes of the kth record is read back
+  read-field : (w : ℕ) (b : List ℕ) (rs : List A) (d : A) (k at v : ℕ) (front back : List Field) → b ≡ tableOf (length b) f rs → k < length rs
+      → f (getD rs k d) ≡ front ++ (record { width = w; number = v } ∷ back) → at ≡ k * n + length (fieldBytes front)
+      → leValue (take w (drop at b)) ≡ leValue (le w v)
+  read-field w b rs d k at v front back is h e q =
       let bytes : A → List ℕ = λ r. fieldBytes (f r) in
       let zs : List ℕ = replicate (length b - length (together (map bytes rs))) 0 in
       let rest : List ℕ = together (map bytes (drop (suc k) rs)) ++ zs in
-      let from : drop at b ≡ drop (length (fieldBytes front)) (fieldBytes (front ++ (record { width = 4; number = v } ∷ back)) ++ rest) =
+      let from : drop at b ≡ drop (length (fieldBytes front)) (fieldBytes (front ++ (record { width = w; number = v } ∷ back)) ++ rest) =
       ap (λ (i : ℕ). drop i b) q ∙ sym (drop-drop (length (fieldBytes front)) (k * n) b)
       ∙ ap (λ (xs : List ℕ). drop (length (fieldBytes front)) (drop (k * n) xs)) is
       ∙ ap (drop (length (fieldBytes front))) (records-from bytes n sized rs zs k h d)
       ∙ ap (λ (fs : List Field). drop (length (fieldBytes front)) (fieldBytes fs ++ rest)) e in
-      ap (λ (xs : List ℕ). leValue (take 4 xs)) from
-      ∙ ap leValue (field-at front (record { width = 4; number = v }) back rest)
-      ∙ le-back v small
+      ap (λ (xs : List ℕ). leValue (take w xs)) from ∙ ap leValue (field-at front (record { width = w; number = v }) back rest)
+
+  pub read-four : (b : List ℕ) (rs : List A) (d : A) (k at v : ℕ) (front back : List Field) → b ≡ tableOf (length b) f rs → k < length rs
+      → f (getD rs k d) ≡ front ++ (record { width = 4; number = v } ∷ back) → at ≡ k * n + length (fieldBytes front) → v < 2 ^ 32
+      → fourAt b at ≡ v
+  read-four b rs d k at v front back is h e q small = read-field 4 b rs d k at v front back is h e q ∙ le-back v small
 
   -- so is a kth record of four such fields
   pub read-row : (b : List ℕ) (rs : List A) (d : A) (k v w x y : ℕ) → b ≡ tableOf (length b) f rs → k < length rs
@@ -165,3 +168,14 @@ module _ {A : Type 0} (f : A → List Field) (n : ℕ) (sized : (r : A) → leng
     read-four b rs d k (k * n + 8) x (four v ∷ four w ∷ []) _ is h e refl sx,
     read-four b rs d k (k * n + 12) y (four v ∷ four w ∷ four x ∷ []) _ is h e refl sy,
   )
+
+  pub read-eight : (b : List ℕ) (rs : List A) (d : A) (k at v : ℕ) (front back : List Field) → b ≡ tableOf (length b) f rs → k < length rs
+      → f (getD rs k d) ≡ front ++ (record { width = 8; number = v } ∷ back) → at ≡ k * n + length (fieldBytes front) → v < 2 ^ 64
+      → eightAt b at ≡ v
+  read-eight b rs d k at v front back is h e q small = read-field 8 b rs d k at v front back is h e q ∙ le-value 8 v ∙ mod-eq-of-lt small
+
+  -- a table's records lie within it
+  pub table-lent : (b : List ℕ) (rs : List A) → b ≡ tableOf (length b) f rs → length rs * n ≤ length b
+  table-lent b rs is =
+      let all : List ℕ = together (map (λ r. fieldBytes (f r)) rs) in
+      omega (arith, length-records (λ r. fieldBytes (f r)) n sized rs, ap length is ∙ length-append all (replicate (length b - length all) 0))

@@ -13,3 +13,6 @@ pub mod Lent
 pub mod Orders
 pub mod Tokens
 pub mod Placed
+pub mod Names
+pub mod Terms
+pub mod Resolves

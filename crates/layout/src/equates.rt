@@ -1,13 +1,32 @@
 // Equates: the record, pending until a round finds its value, and its expression.
+use crate::index::BUCKETS;
+use crate::index::bucket_of;
+use crate::index::insert;
 use crate::limits::Room;
 use crate::line::EquateParts;
 use crate::records::EquateRecord;
 use crate::records::ExprRecord;
+use crate::records::get_equate;
 use crate::records::put_equate;
 use crate::records::put_expr;
 use crate::state::Count;
 use crate::state::Place;
+use numbers::text::Span;
+use numbers::text::same_bytes;
+use numbers::text::span_bytes;
 ghost use mathlib.Core.Path.{_≡_};
+ghost use mathlib.Core.Bool.{_&&_, not};
+ghost use mathlib.Core.List.{List, []};
+ghost use Prim.Native.Nat.{_+_, _*_, _≤_, _<_};
+ghost use lib.ListN.{length};
+ghost use lib.Dec.{eqb};
+ghost use Rattle.numbers.specs.Text.{same};
+ghost use Rattle.layout.specs.Limits.{equateSize, equateLimit};
+ghost use Rattle.layout.specs.Rounds.{Known, constant};
+ghost use Rattle.layout.specs.code.Steps.{Some};
+ghost use Rattle.layout.specs.code.Index.{buckets, Indexed};
+ghost use Rattle.layout.specs.code.Tables.{equateRecordAt, equateNameAt, equateNames};
+ghost use Rattle.layout.specs.code.Names.{valueOf, EquateTable};
 ghost use Rattle.layout.specs.Stage.{addEquate};
 ghost use Rattle.layout.specs.code.Spans.{SpanWithin, LineIn, equateAt};
 ghost use Rattle.layout.specs.code.Places.{PlaceFits};
@@ -50,4 +69,69 @@ pub fn add_equate(
     };
     put_expr(exprs, count, source);
     Count::Now(count + 1)
+}
+
+// The kth equate's name.
+pub fn equate_name<'a>(text: &'a [u8], equates: &[u8], k: usize) -> &'a [u8]
+    requires { ⌜ k * equateSize + equateSize ≤ length (now equates) ⌝ }
+    ensures { λ r. ⌜ now r ≡ equateNameAt (now (text .entry)) (now (equates .entry)) k ⌝ }
+{
+    let equate = get_equate(equates, k);
+    let name = Span {
+        start: equate.start as usize,
+        len: equate.len as usize,
+    };
+    span_bytes(text, name)
+}
+
+// The index of so many equates' names; several may share one.
+pub fn index_equates(text: &[u8], equates: &[u8], count: usize, index: &mut [u16])
+    requires { ⌜ (count * equateSize ≤ length (now equates)) × (count ≤ equateLimit) × (buckets + count ≤ length (now index))
+        × Indexed [] (now index) ⌝ }
+    ensures { λ _. ⌜ Indexed (equateNames (now (text .entry)) (now (equates .entry)) 0 count) (now (index .exit)) ⌝ }
+{
+    let mut k = 0;
+    while k < count {
+        insert(index, k, bucket_of(equate_name(text, equates, k)));
+        k += 1;
+    }
+}
+
+// An equate's value, or nothing where no equate of the name has one yet.
+pub enum Value {
+    Is(i64),
+    Nothing,
+}
+
+// Has the kth equate this name, and a value?
+fn is_found(text: &[u8], equates: &[u8], k: usize, name: &[u8]) -> bool
+    requires { ⌜ k * equateSize + equateSize ≤ length (now equates) ⌝ }
+    ensures { λ r. ⌜ r ≡ not (eqb (equateRecordAt (now (equates .entry)) k .round) 0)
+        && same (equateNameAt (now (text .entry)) (now (equates .entry)) k) (now (name .entry)) ⌝ }
+{
+    if get_equate(equates, k).round == 0 {
+        return false;
+    }
+    same_bytes(equate_name(text, equates, k), name)
+}
+
+// The value of a name's first equate that has one: the last that the chain of the name's bucket comes to.
+pub fn constant(text: &[u8], equates: &[u8], index: &[u16], count: usize, name: &[u8]) -> Value
+    requires { ⌜ Some (EquateTable (now text) (now equates) (now index) count) ⌝ }
+    ensures { λ r. ⌜ ((ks : List Known) → EquateTable (now (text .entry)) (now (equates .entry)) (now (index .entry)) count ks
+        → valueOf r ≡ constant ks (now (name .entry))) ⌝ }
+{
+    let mut found = 0;
+    let mut entry = index[bucket_of(name)] as usize;
+    while 0 < entry {
+        let k = entry - 1;
+        if is_found(text, equates, k, name) {
+            found = entry;
+        }
+        entry = index[BUCKETS + k] as usize;
+    }
+    if found == 0 {
+        return Value::Nothing;
+    }
+    Value::Is(get_equate(equates, found - 1).value)
 }

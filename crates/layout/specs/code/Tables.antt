@@ -142,3 +142,12 @@ pub record LabelsIndexed (t b ix : List ℕ) (count : ℕ) : Type 0 where
 -- what was found is what a search in order finds
 abbrev pub LooksUp : List ℕ → List ℕ → ℕ → List ℕ → Lookup → Type 0
 LooksUp t b count n r = (lookupOf r ≡ lookupIn n 0 (labelNames t b 0 count)) × LookupBelow count r
+
+-- ---- equates by name
+
+abbrev pub equateNameAt : List ℕ → List ℕ → ℕ → List ℕ
+equateNameAt t b k = spanned t (record { start = equateRecordAt b k .start; len = equateRecordAt b k .len })
+
+unfoldable pub equateNames : List ℕ → List ℕ → ℕ → ℕ → List (List ℕ)
+equateNames t b k zero = []
+equateNames t b k (suc n) = equateNameAt t b k ∷ equateNames t b (suc k) n

@@ -1,0 +1,358 @@
+-- Expressions term by term: the signs, the term, what joins the next one; and the sum from a place on is the whole text's, whatever other
+-- names get values.
+use Prim.Native.Nat.{ℕ, _+_, _≤_, _<_}
+use native.Mathlib.Omega.{arith}
+use mathlib.Core.Path.{_≡_, refl, sym, ap, _∙_}
+use mathlib.Core.List.{List, [], _∷_}
+use mathlib.Core.Bool.{Bool, true, false, not, cond, false≢true}
+use mathlib.Core.Option.{Option, none, some}
+use lib.ListN.{length}
+use lib.IntN.{ℤ, pos, _+ℤ_}
+use Rattle.numbers.specs.Results.{value, refused}
+use Rattle.numbers.specs.Ints.{fit64, signTimes}
+use Rattle.numbers.specs.declared.ints.Checked.{Checked}
+use Rattle.numbers.specs.declared.ints.Checked.the-variants.{Fits, Beyond}
+use Rattle.numbers.specs.code.Meanings.{checkedValue}
+use Rattle.layout.specs.declared.tokens.Token as code
+use Rattle.layout.specs.declared.tokens.Token.the-variants as kind
+use Rattle.layout.specs.declared.expr.Evaluated as answer
+use Rattle.layout.specs.declared.expr.Evaluated.the-variants.{Value, Waits, Refused}
+use Rattle.layout.specs.declared.expr.Term.the-variants as term-kind
+use Rattle.layout.specs.declared.expr.Joint.the-variants as joint-kind
+use Rattle.layout.specs.Expressions.{Token, plus, minus, dot, number, name, unreadable, Evaluated, positive, negative, Wanted, term, joint}
+use Rattle.layout.specs.Expressions.{tokens, anyUnreadable, onFit, addTerm, onName, sumFrom, evaluate}
+use Rattle.layout.specs.code.Tokens.{tokenOf, spacedIn, tokensFrom, TokenLeads}
+use Rattle.layout.specs.code.Terms.{ownSign, unsigned, IsOperand, TermStands, NoTerm, termValue, AddsTerm, NoJoint, JointStands}
+use Rattle.layout.specs.code.Terms.{isUnknown, operandWaits, termWaits, Extends, WaitsAt, Waiting, Evaluates, sumOf, evaluationOf}
+
+-- ---- signs
+
+-- the signs in front of a term are passed, and their sign is the term's own
+sum-unsigned : (look : List ℕ → Option ℤ) (here sum : ℤ) (joining own : Bool) (ts : List Token)
+    → sumFrom look here sum (term joining own) ts ≡ sumFrom look here sum (term joining (ownSign own ts)) (unsigned ts)
+unfolding sumFrom ownSign unsigned
+sum-unsigned look here sum joining own [] = refl
+sum-unsigned look here sum joining own (plus ∷ ts) = sum-unsigned look here sum joining own ts
+sum-unsigned look here sum joining own (minus ∷ ts) = sum-unsigned look here sum joining (not own) ts
+sum-unsigned look here sum joining own (dot ∷ ts) = refl
+sum-unsigned look here sum joining own (number z ∷ ts) = refl
+sum-unsigned look here sum joining own (name n ∷ ts) = refl
+sum-unsigned look here sum joining own (unreadable ∷ ts) = refl
+
+-- along the signs from a place on: what is left makes the same sign, and the same stands behind it
+pub record Signing (oneSpace : Bool) (s : List ℕ) (from : ℕ) (own : Bool) (at : ℕ) : Type 0 where
+  pub further : from ≤ at
+  pub sign : ownSign own (tokensFrom oneSpace s at) ≡ ownSign positive (tokensFrom oneSpace s from)
+  pub rest : unsigned (tokensFrom oneSpace s at) ≡ unsigned (tokensFrom oneSpace s from)
+
+module _ (oneSpace : Bool) (s : List ℕ) (from : ℕ) where
+  pub signs-first : Signing oneSpace s from positive from
+  signs-first = record { further = omega arith; sign = refl; rest = refl }
+
+  module _ (own : Bool) (at : ℕ) (m : Signing oneSpace s from own at) where
+    pub signs-end : tokensFrom oneSpace s at ≡ [] → NoTerm (unsigned (tokensFrom oneSpace s from))
+    unfolding unsigned
+    signs-end e = rw (← m .rest, e) tt
+
+    module _ (t : code.Token) (after : ℕ) (l : TokenLeads oneSpace s at t after) where
+      pub signs-plus : t ≡ kind.Plus → Signing oneSpace s from own after
+      unfolding ownSign unsigned
+      signs-plus e =
+          let q : tokensFrom oneSpace s at ≡ plus ∷ tokensFrom oneSpace s after = l .leads ∙ rw e refl in
+          record {
+            further = omega (arith, m .further, l .further);
+            sign = sym (ap (ownSign own) q) ∙ m .sign;
+            rest = sym (ap unsigned q) ∙ m .rest;
+          }
+
+      pub signs-minus : t ≡ kind.Minus → Signing oneSpace s from (not own) after
+      unfolding ownSign unsigned
+      signs-minus e =
+          let q : tokensFrom oneSpace s at ≡ minus ∷ tokensFrom oneSpace s after = l .leads ∙ rw e refl in
+          record {
+            further = omega (arith, m .further, l .further);
+            sign = sym (ap (ownSign own) q) ∙ m .sign;
+            rest = sym (ap unsigned q) ∙ m .rest;
+          }
+
+      pub signs-unreadable : t ≡ kind.Unreadable → NoTerm (unsigned (tokensFrom oneSpace s from))
+      unfolding unsigned
+      signs-unreadable e =
+          let q : tokensFrom oneSpace s at ≡ unreadable ∷ tokensFrom oneSpace s after = l .leads ∙ rw e refl in
+          rw (← m .rest, q) tt
+
+  -- an operand ends the signs
+  operand-sign : (own : Bool) (t : code.Token) (ts : List Token) → IsOperand t → ownSign own (tokenOf s t ∷ ts) ≡ own
+  unfolding ownSign
+  operand-sign own kind.Plus ts o = absurd o
+  operand-sign own kind.Minus ts o = absurd o
+  operand-sign own kind.Dot ts o = refl
+  operand-sign own (kind.Number z) ts o = refl
+  operand-sign own (kind.Name p) ts o = refl
+  operand-sign own kind.Unreadable ts o = absurd o
+
+  operand-left : (t : code.Token) (ts : List Token) → IsOperand t → unsigned (tokenOf s t ∷ ts) ≡ tokenOf s t ∷ ts
+  unfolding unsigned
+  operand-left kind.Plus ts o = absurd o
+  operand-left kind.Minus ts o = absurd o
+  operand-left kind.Dot ts o = refl
+  operand-left (kind.Number z) ts o = refl
+  operand-left (kind.Name p) ts o = refl
+  operand-left kind.Unreadable ts o = absurd o
+
+  pub signs-operand : (own : Bool) (at : ℕ) → Signing oneSpace s from own at → (t u : code.Token) (after : ℕ) → TokenLeads oneSpace s at t after
+      → t ≡ u → IsOperand u → TermStands oneSpace s from own u after
+  signs-operand own at m t u after l e o =
+      let q : tokensFrom oneSpace s at ≡ tokenOf s u ∷ tokensFrom oneSpace s after = l .leads ∙ rw e refl in
+      record {
+        sign = sym (operand-sign own u (tokensFrom oneSpace s after) o) ∙ sym (ap (ownSign own) q) ∙ m .sign;
+        operand = o;
+        leads = sym (m .rest) ∙ ap unsigned q ∙ operand-left u (tokensFrom oneSpace s after) o;
+        further = omega (arith, m .further, l .further);
+        within = l .within;
+        named = rw e at (l .named);
+      }
+
+-- ---- a term
+
+-- no term: 16
+no-term : (look : List ℕ → Option ℤ) (here sum : ℤ) (joining own : Bool) (ts : List Token) → NoTerm ts → sumFrom look here sum (term joining own) ts ≡ refused 16
+unfolding sumFrom
+no-term look here sum joining own [] h = refl
+no-term look here sum joining own (plus ∷ ts) h = absurd h
+no-term look here sum joining own (minus ∷ ts) h = absurd h
+no-term look here sum joining own (dot ∷ ts) h = absurd h
+no-term look here sum joining own (number z ∷ ts) h = absurd h
+no-term look here sum joining own (name n ∷ ts) h = absurd h
+no-term look here sum joining own (unreadable ∷ ts) h = refl
+
+-- a term's value is added, where it has one
+operand-adds : (look : List ℕ → Option ℤ) (here sum : ℤ) (joining own : Bool) (s : List ℕ) (t : code.Token) (ts : List Token) → IsOperand t
+    → sumFrom look here sum (term joining own) (tokenOf s t ∷ ts)
+    ≡ onName (termValue look here (tokenOf s t)) (λ v. addTerm sum joining own v (λ z. sumFrom look here z joint ts))
+unfolding sumFrom
+operand-adds look here sum joining own s kind.Plus ts o = absurd o
+operand-adds look here sum joining own s kind.Minus ts o = absurd o
+operand-adds look here sum joining own s kind.Dot ts o = refl
+operand-adds look here sum joining own s (kind.Number z) ts o = refl
+operand-adds look here sum joining own s (kind.Name p) ts o = refl
+operand-adds look here sum joining own s kind.Unreadable ts o = absurd o
+
+-- a value stays where other names get theirs
+value-stays : (look later : List ℕ → Option ℤ) → Extends look later → (here : ℤ) (t : Token) (v : ℤ) → termValue look here t ≡ some v → termValue later here t ≡ some v
+value-stays look later x here plus v e = e
+value-stays look later x here minus v e = e
+value-stays look later x here dot v e = e
+value-stays look later x here (number z) v e = e
+value-stays look later x here (name n) v e = x n v e
+value-stays look later x here unreadable v e = e
+
+pub extends-self : (look : List ℕ → Option ℤ) → Extends look look
+extends-self look n z e = e
+
+pub extends-trans : (f g h : List ℕ → Option ℤ) → Extends f g → Extends g h → Extends f h
+extends-trans f g h p q n z e = q n z (p n z e)
+
+-- 24's three conditions by what each comes to
+module _ (sum : ℤ) (joining own : Bool) (v : ℤ) where
+  pub adds-own : (p : Checked) → checkedValue p ≡ fit64 (signTimes own v) → p ≡ Beyond → AddsTerm sum joining own v Beyond
+  adds-own p e h f = rw (← e, h) refl
+
+  module _ (o : Checked) (p : ℤ) (e : checkedValue o ≡ fit64 (signTimes own v)) (is : o ≡ Fits p) where
+    own-fits : fit64 (signTimes own v) ≡ some p
+    own-fits = sym e ∙ ap checkedValue is
+
+    pub adds-joining : (q : Checked) → checkedValue q ≡ fit64 (signTimes joining p) → q ≡ Beyond → AddsTerm sum joining own v Beyond
+    adds-joining q d h f = rw (own-fits, ← d, h) refl
+
+    pub adds-sum : (j r : Checked) (q : ℤ) → checkedValue j ≡ fit64 (signTimes joining p) → j ≡ Fits q → checkedValue r ≡ fit64 (sum +ℤ q)
+        → AddsTerm sum joining own v r
+    adds-sum j r q d h g f = rw (own-fits, sym d ∙ ap checkedValue h, ← g) refl
+
+-- ---- what joins the next term
+
+module _ (oneSpace : Bool) (s : List ℕ) (at : ℕ) (t : code.Token) (after : ℕ) where
+  pub joint-plus : TokenLeads oneSpace s at t after → t ≡ kind.Plus → JointStands oneSpace s at plus after
+  joint-plus l e = record { leads = l .leads ∙ rw e refl; further = l .further; within = l .within }
+
+  pub joint-minus : TokenLeads oneSpace s at t after → t ≡ kind.Minus → JointStands oneSpace s at minus after
+  joint-minus l e = record { leads = l .leads ∙ rw e refl; further = l .further; within = l .within }
+
+  -- any other token joins nothing
+  pub joint-other : (u : code.Token) → TokenLeads oneSpace s at t after → t ≡ u → NoJoint (tokenOf s u ∷ []) → NoJoint (tokensFrom oneSpace s at)
+  joint-other u l e n = rw (l .leads, e) (alone (tokenOf s u) (tokensFrom oneSpace s after) n)
+    where
+      alone : (x : Token) (ts : List Token) → NoJoint (x ∷ []) → NoJoint (x ∷ ts)
+      alone plus ts n = n
+      alone minus ts n = n
+      alone dot ts n = n
+      alone (number z) ts n = n
+      alone (name y) ts n = n
+      alone unreadable ts n = n
+
+-- ---- a term that waits
+
+-- it is the operand behind the signs that waits
+waits-behind : (look : List ℕ → Option ℤ) (ts us : List Token) → unsigned ts ≡ us → termWaits look ts ≡ operandWaits look us
+unfolding termWaits
+waits-behind look ts us e = ap (operandWaits look) e
+
+unknown-none : (o : Option ℤ) → isUnknown o ≡ true → o ≡ none
+unknown-none none h = refl
+unknown-none (some z) h = absurd (false≢true h)
+
+operand-waits : (look : List ℕ → Option ℤ) (here : ℤ) (t : Token) (ts : List Token) → operandWaits look (t ∷ ts) ≡ true → termValue look here t ≡ none
+operand-waits look here plus ts h = refl
+operand-waits look here minus ts h = refl
+operand-waits look here dot ts h = absurd (false≢true h)
+operand-waits look here (number z) ts h = absurd (false≢true h)
+operand-waits look here (name n) ts h = unknown-none (look n) h
+operand-waits look here unreadable ts h = refl
+
+operand-valued : (look : List ℕ → Option ℤ) (here : ℤ) (s : List ℕ) (t : code.Token) (ts : List Token) (o : Option ℤ) → IsOperand t
+    → termValue look here (tokenOf s t) ≡ o → operandWaits look (tokenOf s t ∷ ts) ≡ isUnknown o
+operand-valued look here s kind.Plus ts o h e = absurd h
+operand-valued look here s kind.Minus ts o h e = absurd h
+operand-valued look here s kind.Dot ts o h e = ap isUnknown e
+operand-valued look here s (kind.Number z) ts o h e = ap isUnknown e
+operand-valued look here s (kind.Name p) ts o h e = ap isUnknown e
+operand-valued look here s kind.Unreadable ts o h e = absurd h
+
+-- no term waits for nothing
+pub waits-missing : (look : List ℕ → Option ℤ) (ts : List Token) → NoTerm (unsigned ts) → false ≡ termWaits look ts
+waits-missing look ts h = sym (waits-behind look ts (unsigned ts) refl ∙ nothing (unsigned ts) h)
+  where
+    nothing : (us : List Token) → NoTerm us → operandWaits look us ≡ false
+    nothing [] h = refl
+    nothing (plus ∷ us) h = absurd h
+    nothing (minus ∷ us) h = absurd h
+    nothing (dot ∷ us) h = absurd h
+    nothing (number z ∷ us) h = absurd h
+    nothing (name n ∷ us) h = absurd h
+    nothing (unreadable ∷ us) h = refl
+
+-- a term waits where its operand has no value
+module _ (look : List ℕ → Option ℤ) (oneSpace : Bool) (s : List ℕ) (at : ℕ) (own : Bool) (t : code.Token) (after : ℕ)
+    (w : TermStands oneSpace s at own t after) (here : ℤ) where
+  pub waits-valued : (o : Option ℤ) → o ≡ termValue look here (tokenOf s t) → isUnknown o ≡ termWaits look (tokensFrom oneSpace s at)
+  waits-valued o e =
+      sym (waits-behind look (tokensFrom oneSpace s at) _ (w .leads)
+      ∙ operand-valued look here s t (tokensFrom oneSpace s after) o (w .operand) (sym e))
+
+-- what joins no term: 16
+no-joint : (look : List ℕ → Option ℤ) (here sum : ℤ) (ts : List Token) → NoJoint ts → sumFrom look here sum joint ts ≡ refused 16
+unfolding sumFrom
+no-joint look here sum [] h = absurd h
+no-joint look here sum (plus ∷ ts) h = absurd h
+no-joint look here sum (minus ∷ ts) h = absurd h
+no-joint look here sum (dot ∷ ts) h = refl
+no-joint look here sum (number z ∷ ts) h = refl
+no-joint look here sum (name n ∷ ts) h = refl
+no-joint look here sum (unreadable ∷ ts) h = refl
+
+-- ---- the sum, term by term
+
+-- what is summed so far, carried on from a place, is the whole text's sum, whatever other names get values
+pub record Summing (look : List ℕ → Option ℤ) (oneSpace : Bool) (s : List ℕ) (here sum : ℤ) (joining : Bool) (at : ℕ) : Type 0 where
+  pub within : at ≤ length s
+  pub goes : (later : List ℕ → Option ℤ) → Extends look later
+      → sumFrom later here sum (term joining positive) (tokensFrom oneSpace s at) ≡ sumOf oneSpace s here later
+
+pub sum-first : (look : List ℕ → Option ℤ) (oneSpace : Bool) (s : List ℕ) (here : ℤ) → Summing look oneSpace s here (pos 0) positive 0
+sum-first look oneSpace s here = record { within = omega arith; goes = λ later x. refl }
+
+module _ (look : List ℕ → Option ℤ) (oneSpace : Bool) (s : List ℕ) (here sum : ℤ) (joining : Bool) (at : ℕ) (m : Summing look oneSpace s here sum joining at) where
+  -- a refusal or a value from here on is the whole text's
+  ends : (r : Evaluated) → sumFrom look here sum (term joining positive) (tokensFrom oneSpace s at) ≡ r → r ≡ sumOf oneSpace s here look
+  ends r e = sym e ∙ m .goes look (extends-self look)
+
+  pub sum-missing : NoTerm (unsigned (tokensFrom oneSpace s at)) → Evaluates look oneSpace s (sumOf oneSpace s here) (Refused 16)
+  sum-missing h =
+      record {
+        answers = ends (refused 16)
+            (sum-unsigned look here sum joining positive (tokensFrom oneSpace s at)
+            ∙ no-term look here sum joining (ownSign positive (tokensFrom oneSpace s at)) (unsigned (tokensFrom oneSpace s at)) h);
+        waiting = tt;
+      }
+
+  module _ (own : Bool) (t : code.Token) (after : ℕ) (w : TermStands oneSpace s at own t after) where
+    -- the term's value is added
+    adds : (later : List ℕ → Option ℤ) → sumFrom later here sum (term joining positive) (tokensFrom oneSpace s at)
+        ≡ onName (termValue later here (tokenOf s t)) (λ v. addTerm sum joining own v (λ z. sumFrom later here z joint (tokensFrom oneSpace s after)))
+    adds later =
+        sum-unsigned later here sum joining positive (tokensFrom oneSpace s at)
+        ∙ ap (λ (o : Bool). sumFrom later here sum (term joining o) (unsigned (tokensFrom oneSpace s at))) (sym (w .sign))
+        ∙ ap (sumFrom later here sum (term joining own)) (w .leads)
+        ∙ operand-adds later here sum joining own s t (tokensFrom oneSpace s after) (w .operand)
+
+    -- a name without a value: the sum waits here
+    pub sum-waits : none ≡ termValue look here (tokenOf s t) → Evaluates look oneSpace s (sumOf oneSpace s here) (Waits at)
+    sum-waits e =
+        record {
+          answers = ends (value none) (adds look ∙ rw (← e) refl);
+          waiting = record { within = m .within; waits = λ later x h. sym (m .goes later x) ∙ waits-here later h };
+        }
+      where
+        waits-here : (later : List ℕ → Option ℤ) → termWaits later (tokensFrom oneSpace s at) ≡ true
+            → sumFrom later here sum (term joining positive) (tokensFrom oneSpace s at) ≡ value none
+        waits-here later h =
+            adds later ∙ rw (operand-waits later here (tokenOf s t) (tokensFrom oneSpace s after) (sym (waits-behind later (tokensFrom oneSpace s at) _ (w .leads)) ∙ h)) refl
+
+    module _ (v : ℤ) (e : some v ≡ termValue look here (tokenOf s t)) where
+      pub sum-beyond : AddsTerm sum joining own v Beyond → Evaluates look oneSpace s (sumOf oneSpace s here) (Refused 24)
+      sum-beyond a = record { answers = ends (refused 24) (adds look ∙ rw (← e) (a _)); waiting = tt }
+
+      module _ (z : ℤ) (a : AddsTerm sum joining own v (Fits z)) where
+        -- the sum with the term, before what joins the next one
+        added : (later : List ℕ → Option ℤ) → Extends look later
+            → sumFrom later here sum (term joining positive) (tokensFrom oneSpace s at) ≡ sumFrom later here z joint (tokensFrom oneSpace s after)
+        added later x = adds later ∙ rw (value-stays look later x here (tokenOf s t) v (sym e)) (a _)
+
+        pub sum-end : tokensFrom oneSpace s after ≡ [] → Evaluates look oneSpace s (sumOf oneSpace s here) (Value z)
+        unfolding sumFrom
+        sum-end q = record { answers = ends (value (some z)) (added look (extends-self look) ∙ ap (sumFrom look here z joint) q); waiting = tt }
+
+        pub sum-malformed : NoJoint (tokensFrom oneSpace s after) → Evaluates look oneSpace s (sumOf oneSpace s here) (Refused 16)
+        sum-malformed n =
+            record {
+              answers = ends (refused 16) (added look (extends-self look) ∙ no-joint look here z (tokensFrom oneSpace s after) n);
+              waiting = tt;
+            }
+
+        pub sum-plus : (next : ℕ) → JointStands oneSpace s after plus next → Summing look oneSpace s here z positive next
+        unfolding sumFrom
+        sum-plus next j =
+            record {
+              within = j .within;
+              goes = λ later x. sym (ap (sumFrom later here z joint) (j .leads)) ∙ sym (added later x) ∙ m .goes later x;
+            }
+
+        pub sum-minus : (next : ℕ) → JointStands oneSpace s after minus next → Summing look oneSpace s here z negative next
+        unfolding sumFrom
+        sum-minus next j =
+            record {
+              within = j .within;
+              goes = λ later x. sym (ap (sumFrom later here z joint) (j .leads)) ∙ sym (added later x) ∙ m .goes later x;
+            }
+
+-- ---- the whole expression
+
+module _ (look : List ℕ → Option ℤ) (oneSpace : Bool) (s : List ℕ) (here : ℤ) where
+  -- one token that is unreadable refuses
+  pub evaluates-unreadable : anyUnreadable (tokens (spacedIn oneSpace s)) ≡ true → Evaluates look oneSpace s (evaluationOf oneSpace s here) (Refused 16)
+  unfolding evaluate
+  evaluates-unreadable e = record { answers = rw e refl; waiting = tt }
+
+  module _ (r : answer.Evaluated) (e : anyUnreadable (tokens (spacedIn oneSpace s)) ≡ false) where
+    -- else it is the sum
+    is-sum : (later : List ℕ → Option ℤ) → sumOf oneSpace s here later ≡ evaluationOf oneSpace s here later
+    unfolding evaluate tokensFrom
+    is-sum later = rw e refl
+
+    waits-as-sum : (q : answer.Evaluated) → Waiting look oneSpace s (sumOf oneSpace s here) q → Waiting look oneSpace s (evaluationOf oneSpace s here) q
+    waits-as-sum (Value z) w = tt
+    waits-as-sum (Waits at) w = record { within = w .within; waits = λ later x h. sym (is-sum later) ∙ w .waits later x h }
+    waits-as-sum (Refused n) w = tt
+
+    pub evaluates-sum : Evaluates look oneSpace s (sumOf oneSpace s here) r → Evaluates look oneSpace s (evaluationOf oneSpace s here) r
+    evaluates-sum v = record { answers = v .answers ∙ is-sum look; waiting = waits-as-sum r (v .waiting) }

@@ -1,0 +1,149 @@
+-- `expr::sum_terms`: what is summed so far, carried on from here, is the whole text's sum, whatever other names get values.
+use Prim.Native.Nat.{ℕ, _-_, _<_, _≤_}
+use mathlib.Core.Path.{_≡_, refl, sym, ap, _∙_}
+use mathlib.Core.Option.{some}
+use native.Mathlib.Omega.{arith}
+use denote.Ref.{now}
+use lib.IntN.{pos}
+use lib.ListN.{length}
+use mir.Syntax.{w64}
+use mir.Val.{SFits, toZ}
+use mir.Facts.{toZ-ofZ}
+use Rattle.numbers.specs.declared.ints.Checked.the-variants.{Fits}
+use Rattle.layout.specs.Expressions.{plus, minus}
+use Rattle.layout.specs.code.Tokens.{tokenOf}
+use Rattle.layout.specs.code.Names.{valueOf, Scope, lookIn, NamesStand}
+use Rattle.layout.specs.code.Terms.{TermStands, termValue, AddsTerm, JointStands}
+use Rattle.layout.proofs.TermLaws.{Summing, sum-first, sum-missing, sum-waits, sum-beyond, sum-plus, sum-minus, sum-end, sum-malformed}
+use borrow.Author.Needs.{needs}
+use Rattle.layout.proofs.expr.sum_terms.Statement.{statement}
+use Rattle.layout.proofs.expr.sum_terms.Tie as tie
+
+abbrev Inv-loop : tie.InvT-loop
+Inv-loop text labels labelIndex labelCount equates equateIndex equateCount s oneSpace here sum₀ joining₀ at₀ sum joining at =
+    (names : Scope) → NamesStand text labels labelIndex labelCount equates equateIndex equateCount names
+    → Summing (lookIn names) oneSpace s (pos here) (toZ w64 sum) joining at
+
+abbrev μ-loop : tie.MeasureT-loop
+μ-loop text labels labelIndex labelCount equates equateIndex equateCount s oneSpace here sum₀ joining₀ at₀ sum joining at = length s - at
+
+loop-holds : tie.Need-loop-holds Inv-loop μ-loop
+loop-holds c = λ names n. sum-first _ _ _ _
+
+returns : tie.Need-returns Inv-loop μ-loop
+returns c =
+    let f = c .before .before in
+    λ names n. sum-missing _ _ _ _ _ _ _ (f .before .loop .inv names n) (rw (c .enum-told .given .1) at (f .signed-term .ensures))
+
+-- the term read
+term : (c : tie.After-known-told Inv-loop μ-loop) → TermStands (c .before .before .before .before .before .before .before .before .before .before .before .args .one-space) (now (c .before .before .before .before .before .before .before .before .before .before .before .args .s)) (c .before .before .before .before .loop .at) (c .before .own .given .0 .0) (c .before .own .given .0 .1 .0) (c .before .own .given .0 .1 .1 .0)
+term c = rw (c .before .own .given .1) at (c .before .before .before .signed-term .ensures)
+
+returns-2 : tie.Need-returns-2 Inv-loop μ-loop
+returns-2 c =
+    let v = c .before .before in
+    let t = v .before in
+    λ names n. sum-waits _ _ _ _ _ _ _ (t .before .before .before .before .loop .inv names n) _ _ _ (term t) (ap valueOf (sym (c .enum-told2 .given .1)) ∙ v .term-value .ensures names n)
+
+-- its value
+valued : (c : tie.After-known-told2 Inv-loop μ-loop) (names : Scope)
+    → NamesStand (now (c .before .before .before .before .before .before .before .before .before .before .before .before .before .before .before .args .text)) (now (c .before .before .before .before .before .before .before .before .before .before .before .before .before .before .before .args .labels)) (now (c .before .before .before .before .before .before .before .before .before .before .before .before .before .before .before .args .label-index)) (c .before .before .before .before .before .before .before .before .before .before .before .before .before .before .before .args .label-count) (now (c .before .before .before .before .before .before .before .before .before .before .before .before .before .before .before .args .equates)) (now (c .before .before .before .before .before .before .before .before .before .before .before .before .before .before .before .args .equate-index)) (c .before .before .before .before .before .before .before .before .before .before .before .before .before .before .before .args .equate-count) names
+    → some (c .before .v .given .0 .0) ≡ termValue (lookIn names) (pos (c .before .before .before .before .before .before .before .before .before .before .before .before .before .before .before .args .here)) (tokenOf (now (c .before .before .before .before .before .before .before .before .before .before .before .before .before .before .before .args .s)) (c .before .before .before .before .before .own .given .0 .1 .0))
+valued c names n = ap valueOf (sym (c .before .v .given .1)) ∙ c .before .before .before .term-value .ensures names n
+
+returns-3 : tie.Need-returns-3 Inv-loop μ-loop
+returns-3 c =
+    let a = c .before .before in
+    let v = a .before in
+    let t = v .before .before .before .before in
+    let fit : SFits w64 (v .before .v .given .0 .0) = search needs in
+    λ names n. sum-beyond _ _ _ _ _ _ _ (t .before .before .before .before .loop .inv names n) _ _ _ (term t) _ (valued v names n) (rw (toZ-ofZ fit, c .enum-told3 .given .1) at (a .add-term .ensures))
+
+-- the sum with it
+summed : (c : tie.After-known-told3 Inv-loop μ-loop) → AddsTerm (toZ w64 (c .before .before .before .before .before .before .before .before .before .before .before .before .loop .sum)) (c .before .before .before .before .before .before .before .before .before .before .before .before .loop .joining) (c .before .before .before .before .before .before .before .before .before .own .given .0 .0) (c .before .before .before .before .before .v .given .0 .0) (Fits (c .before .next .given .0 .0))
+summed c =
+    let fit : SFits w64 (c .before .before .before .before .before .v .given .0 .0) = search needs in
+    rw (toZ-ofZ fit, c .before .next .given .1) at (c .before .before .before .add-term .ensures)
+
+loop-less : tie.Need-loop-less Inv-loop μ-loop
+loop-less c =
+    let o = c .before .before .before in
+    let t = o .before .before .before .before .before .before .before .before .before in
+    let j = rw (c .before .k .given .1) at (o .operator-at .ensures) in
+    omega (arith, term t .further, j .further, j .within)
+
+loop-again : tie.Need-loop-again Inv-loop μ-loop
+loop-again c =
+    let o = c .before .before .before in
+    let s = o .before in
+    let v = s .before .before .before .before in
+    let t = v .before .before .before .before in
+    let fit : SFits w64 (s .before .next .given .0 .0) = search needs in
+    λ names n. rw (toZ-ofZ fit)
+    (sum-plus _ _ _ _ _ _ _ (t .before .before .before .before .loop .inv names n) _ _ _ (term t) _ (valued v names n) _ (summed s) _ (rw (c .before .k .given .1) at (o .operator-at .ensures)))
+
+loop-less-2 : tie.Need-loop-less-2 Inv-loop μ-loop
+loop-less-2 c =
+    let o = c .before .before .before in
+    let t = o .before .before .before .before .before .before .before .before .before in
+    let j = rw (c .before .k2 .given .1) at (o .operator-at .ensures) in
+    omega (arith, term t .further, j .further, j .within)
+
+loop-again-2 : tie.Need-loop-again-2 Inv-loop μ-loop
+loop-again-2 c =
+    let o = c .before .before .before in
+    let s = o .before in
+    let v = s .before .before .before .before in
+    let t = v .before .before .before .before in
+    let fit : SFits w64 (s .before .next .given .0 .0) = search needs in
+    λ names n. rw (toZ-ofZ fit)
+    (sum-minus _ _ _ _ _ _ _ (t .before .before .before .before .loop .inv names n) _ _ _ (term t) _ (valued v names n) _ (summed s) _ (rw (c .before .k2 .given .1) at (o .operator-at .ensures)))
+
+returns-4 : tie.Need-returns-4 Inv-loop μ-loop
+returns-4 c =
+    let o = c .before .before in
+    let s = o .before in
+    let v = s .before .before .before .before in
+    let t = v .before .before .before .before in
+    let fit : SFits w64 (s .before .next .given .0 .0) = search needs in
+    λ names n. rw (toZ-ofZ fit)
+    (sum-end _ _ _ _ _ _ _ (t .before .before .before .before .loop .inv names n) _ _ _ (term t) _ (valued v names n) _ (summed s) (rw (c .enum-told4 .given .1) at (o .operator-at .ensures)))
+
+returns-5 : tie.Need-returns-5 Inv-loop μ-loop
+returns-5 c =
+    let o = c .before .before in
+    let s = o .before in
+    let v = s .before .before .before .before in
+    let t = v .before .before .before .before in
+    λ names n. sum-malformed _ _ _ _ _ _ _ (t .before .before .before .before .loop .inv names n) _ _ _ (term t) _ (valued v names n) _ (summed s) (rw (c .enum-told5 .given .1) at (o .operator-at .ensures))
+
+pub sum-terms-spec : {M : Type 1} → statement M
+sum-terms-spec =
+    tie.close
+    (tie.spec
+    Inv-loop
+    μ-loop
+    loop-holds
+    (λ c κs. search needs)  -- signed-term-requires
+    (λ c. search needs)  -- enum-known-own
+    (λ c. search needs)  -- enum-told
+    returns
+    (λ c κs. search needs)  -- term-value-requires
+    (λ c. search needs)  -- enum-known-v
+    (λ c. search needs)  -- enum-told-2
+    returns-2
+    (λ c κs. search needs)  -- add-term-requires
+    (λ c. search needs)  -- enum-known-next
+    (λ c. search needs)  -- enum-told-3
+    returns-3
+    (λ c κs. search needs)  -- operator-at-requires
+    (λ c. search needs)  -- enum-known-k
+    loop-less
+    loop-again
+    (λ c. search needs)  -- enum-known-k-2
+    loop-less-2
+    loop-again-2
+    (λ c. search needs)  -- enum-told-4
+    returns-4
+    (λ c. search needs)  -- enum-told-5
+    returns-5)

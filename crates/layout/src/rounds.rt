@@ -1,0 +1,324 @@
+// The equates' rounds: each takes the pending ones in text order, until none is pending or a round finds none.
+use crate::addresses::Starts;
+use crate::addresses::is_label;
+use crate::equates::Value;
+use crate::equates::constant;
+use crate::equates::equate_name;
+use crate::expr::Evaluated;
+use crate::expr::eval_expr;
+use crate::expr::term_waits;
+use crate::records::EquateRecord;
+use crate::records::get_equate;
+use crate::records::get_expr;
+use crate::records::put_equate;
+use numbers::text::Span;
+use numbers::text::span_bytes;
+ghost use mathlib.Core.Path.{_≡_};
+ghost use Prim.Native.Nat.{ℕ, _+_, _*_, _≤_, _<_};
+ghost use lib.ListN.{length};
+ghost use lib.Dec.{eqb};
+ghost use Rattle.layout.specs.Bytes.{put};
+ghost use Rattle.layout.specs.Limits.{equateSize};
+ghost use Rattle.layout.specs.Records.{fieldBytes, equateFields};
+ghost use Rattle.layout.specs.Rounds.{constant, isSome, firstPending, Known};
+ghost use mathlib.Core.List.{List};
+ghost use Rattle.layout.specs.code.Steps.{Some};
+ghost use Rattle.layout.specs.code.Tables.{equateRecordAt};
+ghost use Rattle.layout.specs.code.Names.{EquateTable};
+ghost use Rattle.layout.specs.code.Resolves.{equateIn, TurnReady, TurnKnown, AgainReady, AgainKnown, TurnGives, EvaluationGives, ResolveReady, Resolves};
+
+// An equate's turn: what it comes to, and the evaluations so far.
+pub struct Evaluation {
+    pub answer: Evaluated,
+    pub evaluations: u32,
+}
+
+// Every equate is found, by so many evaluations; or a refusal's number and line.
+pub enum Resolved {
+    Through(u32),
+    Refused(u8, u32),
+}
+
+fn is_constant(text: &[u8], equates: &[u8], index: &[u16], count: usize, name: &[u8]) -> bool
+    requires { ⌜ Some (EquateTable (now text) (now equates) (now index) count) ⌝ }
+    ensures { λ r. ⌜ ((ks : List Known) → EquateTable (now (text .entry)) (now (equates .entry)) (now (index .entry)) count ks
+        → r ≡ isSome (constant ks (now (name .entry)))) ⌝ }
+{
+    match constant(text, equates, index, count, name) {
+        Value::Is(_) => true,
+        Value::Nothing => false,
+    }
+}
+
+// The kth equate against what is known: 14, 15, then its expression.
+pub fn turn(
+    text: &[u8],
+    labels: &[u8],
+    label_index: &[u16],
+    label_count: usize,
+    starts: Starts,
+    equates: &[u8],
+    equate_index: &[u16],
+    equate_count: usize,
+    exprs: &[u8],
+    k: usize,
+) -> Evaluated
+    requires { ⌜ TurnReady text labels «label_index» «label_count» starts equates «equate_index» «equate_count» exprs × (k < «equate_count») ⌝ }
+    ensures { λ r. ⌜ TurnKnown text labels «label_index» «label_count» starts equates «equate_index» «equate_count» exprs
+        (λ names. TurnGives names (equateIn names k) r) ⌝ }
+{
+    let name = equate_name(text, equates, k);
+    if is_label(text, labels, label_index, label_count, name) {
+        return Evaluated::Refused(14);
+    }
+    if is_constant(text, equates, equate_index, equate_count, name) {
+        return Evaluated::Refused(15);
+    }
+    let expr = get_expr(exprs, k);
+    let source = Span {
+        start: expr.start as usize,
+        len: expr.len as usize,
+    };
+    eval_expr(
+        text,
+        labels,
+        label_index,
+        label_count,
+        equates,
+        equate_index,
+        equate_count,
+        span_bytes(text, source),
+        expr.one_space,
+        starts.address(expr.place),
+    )
+}
+
+// The same for an equate that has waited at a term of its expression: while that has no value, it waits there.
+fn turn_again(
+    text: &[u8],
+    labels: &[u8],
+    label_index: &[u16],
+    label_count: usize,
+    starts: Starts,
+    equates: &[u8],
+    equate_index: &[u16],
+    equate_count: usize,
+    exprs: &[u8],
+    k: usize,
+    at: usize,
+) -> Evaluated
+    requires { ⌜ AgainReady text labels «label_index» «label_count» starts equates «equate_index» «equate_count» exprs 2 k at × (k < «equate_count») ⌝ }
+    ensures { λ r. ⌜ AgainKnown text labels «label_index» «label_count» starts equates «equate_index» «equate_count» exprs 2 k at
+        (λ names. TurnGives names (equateIn names k) r) ⌝ }
+{
+    let name = equate_name(text, equates, k);
+    if is_constant(text, equates, equate_index, equate_count, name) {
+        return Evaluated::Refused(15);
+    }
+    let expr = get_expr(exprs, k);
+    let source = Span {
+        start: expr.start as usize,
+        len: expr.len as usize,
+    };
+    if term_waits(
+        text,
+        labels,
+        label_index,
+        label_count,
+        equates,
+        equate_index,
+        equate_count,
+        span_bytes(text, source),
+        expr.one_space,
+        at,
+    ) {
+        return Evaluated::Waits(at);
+    }
+    turn(
+        text,
+        labels,
+        label_index,
+        label_count,
+        starts,
+        equates,
+        equate_index,
+        equate_count,
+        exprs,
+        k,
+    )
+}
+
+// The one function that evaluates: the count of evaluations comes out one higher. From the second round on a pending equate has waited.
+fn evaluate(
+    text: &[u8],
+    labels: &[u8],
+    label_index: &[u16],
+    label_count: usize,
+    starts: Starts,
+    equates: &[u8],
+    equate_index: &[u16],
+    equate_count: usize,
+    exprs: &[u8],
+    k: usize,
+    at: usize,
+    round: u32,
+    evaluations: u32,
+) -> Evaluation
+    requires { ⌜ AgainReady text labels «label_index» «label_count» starts equates «equate_index» «equate_count» exprs round k at × (k < «equate_count») × (evaluations < 0xFFFFFFFF) ⌝ }
+    ensures { λ r. ⌜ AgainKnown text labels «label_index» «label_count» starts equates «equate_index» «equate_count» exprs round k at
+        (λ names. EvaluationGives names (equateIn names k) evaluations r) ⌝ }
+{
+    if round == 1 {
+        return Evaluation {
+            answer: turn(
+                text,
+                labels,
+                label_index,
+                label_count,
+                starts,
+                equates,
+                equate_index,
+                equate_count,
+                exprs,
+                k,
+            ),
+            evaluations: evaluations + 1,
+        };
+    }
+    Evaluation {
+        answer: turn_again(
+            text,
+            labels,
+            label_index,
+            label_count,
+            starts,
+            equates,
+            equate_index,
+            equate_count,
+            exprs,
+            k,
+            at,
+        ),
+        evaluations: evaluations + 1,
+    }
+}
+
+fn is_pending(equates: &[u8], k: usize) -> bool
+    requires { ⌜ k * equateSize + equateSize ≤ length (now equates) ⌝ }
+    ensures { λ r. ⌜ r ≡ eqb (equateRecordAt (now (equates .entry)) k .round) 0 ⌝ }
+{
+    get_equate(equates, k).round == 0
+}
+
+// The kth equate has its value, found in this round.
+fn put_found(equates: &mut [u8], k: usize, value: i64, round: u32)
+    requires { ⌜ k * equateSize + equateSize ≤ length (now equates) ⌝ }
+    ensures { λ _. ⌜ now (equates .exit) ≡ put (k * equateSize) (fieldBytes (equateFields (record {
+      start = equateRecordAt (now (equates .entry)) k .start;
+      len = equateRecordAt (now (equates .entry)) k .len;
+      line = equateRecordAt (now (equates .entry)) k .line;
+      value = value;
+      round = round;
+    }))) (now (equates .entry)) ⌝ }
+{
+    let equate = get_equate(equates, k);
+    let found = EquateRecord {
+        start: equate.start,
+        len: equate.len,
+        line: equate.line,
+        value,
+        round,
+    };
+    put_equate(equates, k, found);
+}
+
+// The line of the first of so many equates that is pending.
+fn first_pending(equates: &[u8], count: usize) -> u32
+    requires { ⌜ count * equateSize ≤ length (now equates) ⌝ }
+    ensures { λ r. ⌜ ((t ix : List ℕ) (ks : List Known) → EquateTable t (now (equates .entry)) ix count ks → r ≡ firstPending ks) ⌝ }
+{
+    let mut k = 0;
+    while k < count {
+        let equate = get_equate(equates, k);
+        if equate.round == 0 {
+            return equate.line;
+        }
+        k += 1;
+    }
+    0
+}
+
+pub fn resolve(
+    text: &[u8],
+    labels: &[u8],
+    label_index: &[u16],
+    label_count: usize,
+    starts: Starts,
+    equates: &mut [u8],
+    equate_index: &[u16],
+    count: usize,
+    exprs: &[u8],
+    waits: &mut [u32],
+) -> Resolved
+    requires { ⌜ ResolveReady text labels «label_index» «label_count» starts equates «equate_index» count exprs waits ⌝ }
+    ensures { λ r. ⌜ Resolves text labels «label_index» «label_count» starts equates «equate_index» count exprs waits r ⌝ }
+{
+    let mut evaluations: u32 = 0;
+    let mut pending = count;
+    let mut round: u32 = 0;
+    let mut refused = false;
+    let mut number: u8 = 0;
+    let mut line: u32 = 0;
+    'rounds: while 0 < pending {
+        round += 1;
+        let before = pending;
+        let mut k = 0;
+        while k < count {
+            if is_pending(equates, k) {
+                let turn = evaluate(
+                    text,
+                    labels,
+                    label_index,
+                    label_count,
+                    starts,
+                    equates,
+                    equate_index,
+                    count,
+                    exprs,
+                    k,
+                    waits[k] as usize,
+                    round,
+                    evaluations,
+                );
+                evaluations = turn.evaluations;
+                let answer = turn.answer;
+                match answer {
+                    Evaluated::Value(v) => {
+                        put_found(equates, k, v, round);
+                        pending -= 1;
+                    }
+                    Evaluated::Waits(at) => {
+                        waits[k] = at as u32;
+                    }
+                    Evaluated::Refused(n) => {
+                        refused = true;
+                        number = n;
+                        line = get_equate(equates, k).line;
+                        break 'rounds;
+                    }
+                }
+            }
+            k += 1;
+        }
+        if pending == before {
+            refused = true;
+            number = 17;
+            line = first_pending(equates, count);
+            break 'rounds;
+        }
+    }
+    if refused {
+        return Resolved::Refused(number, line);
+    }
+    Resolved::Through(evaluations)
+}
