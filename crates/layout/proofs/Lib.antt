@@ -41,3 +41,8 @@ pub mod TurnTables
 pub mod Computing
 pub mod TwelveCases
 pub mod RecordCases
+pub mod SumLaws
+pub mod RoundHistory
+pub mod RoundLaws
+pub mod StageOrder
+pub mod ChainLaws

@@ -13,4 +13,8 @@ pub mod Rounds
 pub mod Expansions
 pub mod Records
 pub mod Layouts
+pub mod Terms
+pub mod Chains
+pub mod Held
+pub mod Demands
 pub mod code

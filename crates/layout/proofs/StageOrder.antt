@@ -1,0 +1,382 @@
+-- What the line stage leaves besides what Kept.antt says: labels of different names, label words side by side, equates at rising lines; and no refusal
+-- of it is 0 or 17.
+use Prim.Native.Nat.{ℕ, suc, _+_, _-_, _*_, _≤_, _<_}
+use mathlib.Core.Path.{_≡_, refl, sym, _∙_, ap}
+use mathlib.Core.List.{List, [], _∷_, _++_, map}
+use mathlib.Core.Bool.{Bool, true, false, cond, not, _||_, _&&_, true≢false}
+use mathlib.Core.Option.{Option, none, some}
+use native.Mathlib.Omega.{arith}
+use lib.Dec.{ltb, leb, eqb}
+use lib.IntN.{ℤ, pos, negsuc}
+use lib.ListN.{length, take, drop, length-append}
+use Rattle.numbers.specs.Results.{Result, value, refused, andThen, mapped}
+use Rattle.numbers.specs.Text.{text, byte, isSpace, trimmed, startsWith, same}
+use Rattle.numbers.specs.Numbers.{immOf}
+use Rattle.numbers.specs.Operands.{operands}
+use Rattle.numbers.specs.Literals.{stringOf}
+use Rattle.numbers.proofs.Bools.{or-left, or-right}
+use Rattle.numbers.proofs.Prefixes.{same-equal, same-refl}
+use Rattle.layout.specs.declared.state.Section.{Section}
+use Rattle.layout.specs.declared.state.Section.the-variants as section
+use Rattle.layout.specs.declared.state.Place.{Place}
+use Rattle.layout.specs.declared.limits.Room.{Room}
+use Rattle.layout.specs.declared.pseudo.Pseudo.{Pseudo}
+use Rattle.layout.specs.declared.directives.Width.{Width}
+use Rattle.layout.specs.declared.directives.Width.the-variants.{Byte, Half, Word, Dword}
+use Rattle.layout.specs.declared.directives.Reserve.{Reserve}
+use Rattle.layout.specs.declared.directives.Reserve.the-variants.{Space, Align}
+use Rattle.layout.specs.declared.directives.Store.{Store}
+use Rattle.layout.specs.declared.directives.Store.the-variants.{Numbers, Text, Float}
+use Rattle.layout.specs.declared.directives.Directive.{Directive}
+use Rattle.layout.specs.declared.directives.Directive.the-variants as directive
+use Rattle.layout.specs.declared.directives.Reservation.{Reservation}
+use Rattle.layout.specs.Bytes.{isOneOf, countBefore}
+use Rattle.layout.specs.Refusals.{Refusal, atLine}
+use Rattle.layout.specs.Limits.{bssLimit, labelWordLimit, Lent, roomOf}
+use Rattle.layout.specs.Pieces.{Piece, piece, trimPiece, fromByte, holds, pieceBefore, pieceAfter, isEmpty, statementOf, lines, linePieces}
+use Rattle.layout.specs.Directives.{Row, directives, rowIn, placeAfter, reservation, Write, bytes, gap, addressOf, isLabelName, rangeAt}
+use Rattle.layout.specs.Directives.{readAt, unread, numberOrName, operandWrite, stringWrite, storeWrites}
+use Rattle.layout.specs.Statements.{Expr, asWritten, withOneSpace, OwnStatement, item, stores, reserves, reservesBss}
+use Rattle.layout.specs.Statements.{Statement, nothing, enters, equate, own, sectionNamed, withoutDot, sectionOf, isSectionLine, sectionName}
+use Rattle.layout.specs.Statements.{sectionLine, symbolAfter, equateOf, equOf, isAssignment, otherIn, assignmentOf, reservesIn, storesIn}
+use Rattle.layout.specs.Statements.{directiveIn, onRow, unlabelledOf, Line, labelled, parsed, lineOf}
+use Rattle.layout.specs.Pseudos.{Item, ordinary, pseudo, other, itemOf, reservedWords}
+use Rattle.layout.specs.State.{Label, Equate, LabelWord, Items, Stored, Own, Rest, State, start, here}
+use Rattle.layout.specs.Stage.{isLabel, recorded, addLabel, labelStep, addEquate, addItem, textLine, writeSize, writeBytes, growData}
+use Rattle.layout.specs.Stage.{addLabelWord, dataWrite, dataLine, growBss, bssLine, withItems, withStored, withBss, withEquates, withOwn}
+use Rattle.layout.specs.Stage.{withRest, ownLine, says, stepParsed, stepLine, lineStage}
+use Rattle.layout.specs.code.Fits.{Each}
+use Rattle.layout.proofs.Each.{cond-has}
+use Rattle.layout.proofs.Gives.{Comes, comes-so, and-then-comes, mapped-comes}
+use Rattle.layout.proofs.Kept.{Grown, grow-data-fits}
+
+-- ---- numbers of refusals
+
+-- not 0, which says accepted, and not 17, which the rounds alone say
+abbrev pub isEarly : ℕ → Bool
+isEarly n = ltb 0 n && not (eqb n 17)
+
+abbrev pub Early : ℕ → Type 0
+Early n = isEarly n ≡ true
+
+-- P of the value, and a refusal of such a number
+abbrev pub ComesEarly : {A : Type 0} → (A → Type 0) → Result ℕ A → Type 0
+ComesEarly P x = Comes P Early x
+
+abbrev Sound : {A : Type 0} → Result ℕ A → Type 0
+Sound x = ComesEarly (λ _. Unit) x
+
+test-has : {A : Type 0} (P : A → Type 0) (c : Bool) (x y : A) → P x → P y → P (elim c [ true ↦ x | false ↦ y ])
+test-has P true x y g h = g
+test-has P false x y g h = h
+
+-- ---- what a line's operands say
+
+unread-sound : (w : Width) (s : List ℕ) → Sound (unread w s)
+unread-sound Byte s = refl
+unread-sound Half s = refl
+unread-sound Word s = cond-has Sound (isLabelName s) _ _ tt refl
+unread-sound Dword s = refl
+
+operand-sound : (w : Width) (s : List ℕ) → Sound (operandWrite w s)
+operand-sound w s = by (readAt w s)
+  where
+    by : (o : Option ℤ) → Sound (numberOrName w o s)
+    by none = unread-sound w s
+    by (some z) = cond-has Sound (rangeAt w z) _ _ tt refl
+
+store-sound : (x : Store) (s : List ℕ) → Each Sound (storeWrites x s)
+store-sound (Numbers w) s = by (operands s)
+  where
+    by : (ops : List (List ℕ)) → Each Sound (map (operandWrite w) ops)
+    by [] = tt
+    by (op ∷ ops) = (operand-sound w op, by ops)
+store-sound (Text zeros) s = (by (stringOf s), tt)
+  where
+    by : (o : Option (List ℕ)) → Sound (stringWrite zeros o)
+    by none = refl
+    by (some b) = tt
+store-sound Float s = (refl, tt)
+
+reservation-sound : (x : Reserve) (o : Option ℤ) → Sound (reservation x o)
+reservation-sound Space none = refl
+reservation-sound Align none = refl
+reservation-sound Space (some (pos n)) = tt
+reservation-sound Space (some (negsuc n)) = refl
+reservation-sound Align (some (pos n)) = cond-has Sound (eqb n 0) _ _ refl tt
+reservation-sound Align (some (negsuc n)) = refl
+
+-- ---- what a line says
+
+section-sound : (n : List ℕ) → Sound (sectionOf n)
+unfolding sectionOf sectionNamed
+section-sound n =
+    cond-has Sound (eqb (length n) 0) _ _ refl (cond-has Sound (same n (text ".note.GNU-stack")) _ _ tt (by (withoutDot n)))
+  where
+    by : (m : List ℕ) → Sound (sectionNamed m)
+    by m =
+        cond-has Sound (isOneOf (text "text" ∷ []) m) _ _ tt
+        (cond-has Sound (isOneOf (text "data" ∷ text "rodata" ∷ text "sdata" ∷ text "srodata" ∷ []) m) _ _ tt
+        (cond-has Sound (isOneOf (text "bss" ∷ text "sbss" ∷ []) m) _ _ tt refl))
+
+equate-sound : (name : Piece) (e : Expr) → Sound (equateOf name e)
+unfolding equateOf
+equate-sound name e = cond-has Sound (isEmpty name || isEmpty (e .source)) _ _ refl tt
+
+equ-sound : (p : Piece) → Sound (equOf p)
+unfolding equOf
+equ-sound p = cond-has Sound (holds (byte ",") p) _ _ (equate-sound _ _) (equate-sound _ _)
+
+other-sound : (s : Section) (p : Piece) → Sound (otherIn s p)
+other-sound section.Text p = tt
+other-sound section.Data p = refl
+other-sound section.Bss p = refl
+
+assignment-sound : (s : Section) (p : Piece) → Sound (assignmentOf s p)
+unfolding assignmentOf
+assignment-sound s p = cond-has Sound (isAssignment p) _ _ (equate-sound _ _) (other-sound s p)
+
+directive-sound : (s : Section) (d : Directive) (b : Bool) (p rest : Piece) → Sound (directiveIn s d b p rest)
+unfolding symbolAfter
+directive-sound s directive.Symbol b p rest = cond-has Sound (eqb (length (trimmed (rest .bytes))) 0) _ _ refl tt
+directive-sound s directive.Ignored b p rest = tt
+directive-sound s directive.Equate b p rest = equ-sound (trimPiece rest)
+directive-sound section.Text (directive.Reserves x) b p rest = tt
+directive-sound section.Data (directive.Reserves x) b p rest = cond-has Sound b _ _ tt refl
+directive-sound section.Bss (directive.Reserves x) b p rest = tt
+directive-sound section.Text (directive.Stores x) b p rest = tt
+directive-sound section.Data (directive.Stores x) b p rest = tt
+directive-sound section.Bss (directive.Stores x) b p rest = refl
+
+unlabelled-sound : (s : Section) (p : Piece) → Sound (unlabelledOf s p)
+unfolding unlabelledOf
+unlabelled-sound s p = cond-has Sound (isEmpty p) _ _ tt (by (rowIn directives (p .bytes)))
+  where
+    by : (o : Option Row) → Sound (onRow o s p)
+    by none = assignment-sound s p
+    by (some r) = directive-sound s (r .directive) (r .inData) p _
+
+line-sound : (s : Section) (l : Piece) → Sound (lineOf s l .says)
+unfolding parsed labelled sectionLine
+line-sound s l =
+    cond-has SaysSound (isSectionLine (p .bytes)) _ _
+    (cond-has Sound (startsWith (text ".section") (p .bytes)) _ _ (section-sound _) (section-sound (p .bytes)))
+    (cond-has SaysSound (holds (byte ":") p) _ _ (unlabelled-sound s _) (unlabelled-sound s p))
+  where
+    p : Piece
+    p = statementOf l
+
+    SaysSound : Line → Type 0
+    SaysSound x = Sound (x .says)
+
+-- ---- labels
+
+-- no two have one name
+abbrev pub Apart : List Label → Type 0
+Apart [] = Unit
+Apart (l ∷ ls) = (isLabel (l .name .bytes) ls ≡ false) × Apart ls
+
+same-swap : (a b : List ℕ) → same a b ≡ false → same b a ≡ false
+same-swap a b e = by (same b a) refl
+  where
+    by : (c : Bool) → same b a ≡ c → same b a ≡ false
+    by true q = absurd (true≢false (sym (same-refl a) ∙ ap (same a) (sym (same-equal b a q)) ∙ e))
+    by false q = q
+
+not-recorded : (n : List ℕ) (x : Label) (ls : List Label) → isLabel n ls ≡ false → same (x .name .bytes) n ≡ false → isLabel n (recorded x ls) ≡ false
+unfolding isLabel recorded
+not-recorded n x [] e q = rw q refl
+not-recorded n x (l ∷ ls) e q =
+    by (same (l .name .bytes) (x .name .bytes)) (not-recorded n x ls (or-right (same (l .name .bytes) n) (isLabel n ls) e) q)
+  where
+    by : (c : Bool) → isLabel n (recorded x ls) ≡ false → isLabel n (elim c [ true ↦ x ∷ ls | false ↦ l ∷ recorded x ls ]) ≡ false
+    by true h = rw q (or-right (same (l .name .bytes) n) (isLabel n ls) e)
+    by false h = rw (or-left (same (l .name .bytes) n) (isLabel n ls) e) h
+
+recorded-apart : (x : Label) (ls : List Label) → Apart ls → Apart (recorded x ls)
+unfolding recorded isLabel
+recorded-apart x [] g = (refl, tt)
+recorded-apart x (l ∷ ls) g = by (same (l .name .bytes) (x .name .bytes)) refl (recorded-apart x ls (g .1))
+  where
+    by : (c : Bool) → same (l .name .bytes) (x .name .bytes) ≡ c → Apart (recorded x ls) → Apart (elim c [ true ↦ x ∷ ls | false ↦ l ∷ recorded x ls ])
+    by true e h = (ap (λ (n : List ℕ). isLabel n ls) (sym (same-equal (l .name .bytes) (x .name .bytes) e)) ∙ g .0, g .1)
+    by false e h = (not-recorded (l .name .bytes) x ls (g .0) (same-swap (l .name .bytes) (x .name .bytes) e), h)
+
+label-apart : (k : Room) (place : Place) (line : ℕ) (o : Option Piece) (ls : List Label) → Apart ls → ComesEarly Apart (labelStep k place line o ls)
+unfolding labelStep addLabel
+label-apart k place line none ls g = g
+label-apart k place line (some name) ls g =
+    let x : Label = record { name = name; place = place; line = line } in
+    test-has (ComesEarly Apart) (isLabel (name .bytes) ls || ltb (length ls) (k .labels)) (value (recorded x ls)) (refused 45) (recorded-apart x ls g) refl
+
+-- ---- label words
+
+-- one after another, from n on and within m
+abbrev pub Spread : ℕ → List LabelWord → ℕ → Type 0
+Spread n [] m = n ≤ m
+Spread n (w ∷ ws) m = (n ≤ w .at) × Spread (w .at + 4) ws m
+
+spread-more : (n : ℕ) (ws : List LabelWord) (m p : ℕ) → m ≤ p → Spread n ws m → Spread n ws p
+spread-more n [] m p h g = omega arith
+spread-more n (w ∷ ws) m p h g = (g .0, spread-more (w .at + 4) ws m p h (g .1))
+
+spread-last : (n : ℕ) (ws : List LabelWord) (w : LabelWord) (p : ℕ) → Spread n ws (w .at) → w .at + 4 ≤ p → Spread n (ws ++ w ∷ []) p
+spread-last n [] w p g h = (g, h)
+spread-last n (x ∷ ws) w p g h = (g .0, spread-last (x .at + 4) ws w p (g .1) h)
+
+abbrev pub StoredSpread : Stored → Type 0
+StoredSpread σ = Spread 0 (σ .labelWords) (length (σ .bytes))
+
+add-word-spread : (line p m : ℕ) (w : Write) (ws : List LabelWord) → p + writeSize p w ≤ m → Spread 0 ws p
+    → ComesEarly (λ us. Spread 0 us m) (addLabelWord line p w ws)
+unfolding addLabelWord
+add-word-spread line p m (bytes bs) ws h g = spread-more 0 ws p m (omega arith) g
+add-word-spread line p m (gap r) ws h g = spread-more 0 ws p m (omega arith) g
+add-word-spread line p m (addressOf name) ws h g =
+    let x : LabelWord = record { at = p; name = name; line = line } in
+    test-has (ComesEarly (λ us. Spread 0 us m)) (ltb (length ws) labelWordLimit) (value (ws ++ x ∷ [])) (refused 47) (spread-last 0 ws x m g h) refl
+
+-- the data grow by what is written, or 42
+grows : (k : Room) (w : Write) (bs : List ℕ) → ComesEarly (Grown k w bs) (growData k w bs)
+unfolding growData
+grows k w bs = by (growData k w bs) (grow-data-fits k w bs) sound
+  where
+    sound : Sound (growData k w bs)
+    sound = test-has Sound (leb (length bs + writeSize (length bs) w) (k .bytes)) (value (bs ++ writeBytes (length bs) w)) (refused 42) tt refl
+
+    by : (x : Result ℕ (List ℕ)) → Comes (Grown k w bs) (λ _. Unit) x → Sound x → ComesEarly (Grown k w bs) x
+    by (value a) g s = g
+    by (refused n) g s = s
+
+module _ (k : Room) (line : ℕ) where
+  write-spread : (w : Write) (σ : Stored) → StoredSpread σ → ComesEarly StoredSpread (dataWrite k line w σ)
+  unfolding dataWrite
+  write-spread w σ g =
+      let p : ℕ = length (σ .bytes) in
+      and-then-comes (Grown k w (σ .bytes)) StoredSpread Early (growData k w (σ .bytes)) _ (grows k w (σ .bytes)) (λ bs h.
+      mapped-comes (λ us. Spread 0 us (length bs)) StoredSpread Early _ (addLabelWord line p w (σ .labelWords)) (λ us i. i)
+      (add-word-spread line p (length bs) w (σ .labelWords) (omega (arith, h .0)) g))
+
+  line-spread : (rs : List (Result ℕ Write)) (σ : Stored) → Each Sound rs → StoredSpread σ → ComesEarly StoredSpread (dataLine k line rs σ)
+  unfolding dataLine
+  line-spread [] σ s g = g
+  line-spread (value w ∷ rs) σ s g =
+      and-then-comes StoredSpread StoredSpread Early (dataWrite k line w σ) (dataLine k line rs) (write-spread w σ g) (λ τ. line-spread rs τ (s .1))
+  line-spread (refused n ∷ rs) σ s g = s .0
+
+  -- ---- items and bss, which keep the rest
+
+  item-sound : (o : Option Pseudo) (p : Piece) (σ : Items) → Sound (addItem k line o p σ)
+  unfolding addItem
+  item-sound o p σ =
+      test-has Sound (ltb (length (σ .list)) (k .items)) _ _
+      (test-has Sound (leb (σ .words + reservedWords o (p .bytes)) (k .words)) _ _ tt refl) refl
+
+  text-sound : (p : Piece) (i : Item) (σ : Items) → Sound (textLine k line p i σ)
+  unfolding textLine
+  text-sound p other σ = refl
+  text-sound p ordinary σ = item-sound none p σ
+  text-sound p (pseudo q) σ = item-sound (some q) p σ
+
+  bss-sound : (r : Result ℕ Reservation) (p : ℕ) → Sound r → Sound (bssLine r p)
+  unfolding bssLine growBss
+  bss-sound (value x) p s = test-has Sound (leb (placeAfter p x) bssLimit) _ _ tt refl
+  bss-sound (refused n) p s = s
+
+  gap-sound : (r : Result ℕ Reservation) → Sound r → Sound (mapped gap r)
+  gap-sound (value x) s = tt
+  gap-sound (refused n) s = s
+
+  -- ---- a line
+
+  abbrev OwnSpread : Own → Type 0
+  OwnSpread σ = StoredSpread (σ .stored)
+
+  own-spread : (s : OwnStatement) (σ : Own) → OwnSpread σ → ComesEarly OwnSpread (ownLine k line s σ)
+  unfolding ownLine
+  own-spread (item p) σ g =
+      mapped-comes (λ _. Unit) OwnSpread Early (withItems σ) (textLine k line p (itemOf (p .bytes)) (σ .items)) (λ x u. g)
+      (text-sound p (itemOf (p .bytes)) (σ .items))
+  own-spread (stores x p) σ g =
+      mapped-comes StoredSpread OwnSpread Early (withStored σ) (dataLine k line (storeWrites x (p .bytes)) (σ .stored)) (λ y h. h)
+      (line-spread (storeWrites x (p .bytes)) (σ .stored) (store-sound x (p .bytes)) g)
+  own-spread (reserves x p) σ g =
+      let r = reservation x (immOf (p .bytes)) in
+      mapped-comes StoredSpread OwnSpread Early (withStored σ) (dataLine k line (mapped gap r ∷ []) (σ .stored)) (λ y h. h)
+      (line-spread (mapped gap r ∷ []) (σ .stored) (gap-sound r (reservation-sound x (immOf (p .bytes))), tt) g)
+  own-spread (reservesBss x p) σ g =
+      let r = reservation x (immOf (p .bytes)) in
+      mapped-comes (λ _. Unit) OwnSpread Early (withBss σ) (bssLine r (σ .bss)) (λ y u. g)
+      (bss-sound r (σ .bss) (reservation-sound x (immOf (p .bytes))))
+
+-- ---- equates
+
+-- lines from n on, each after the one before, and below m
+abbrev pub Rising : ℕ → List Equate → ℕ → Type 0
+Rising n [] m = n ≤ m
+Rising n (e ∷ es) m = (n ≤ e .line) × Rising (suc (e .line)) es m
+
+rising-more : (n : ℕ) (es : List Equate) (m p : ℕ) → m ≤ p → Rising n es m → Rising n es p
+rising-more n [] m p h g = omega arith
+rising-more n (e ∷ es) m p h g = (g .0, rising-more (suc (e .line)) es m p h (g .1))
+
+rising-last : (n : ℕ) (es : List Equate) (e : Equate) (p : ℕ) → Rising n es (e .line) → suc (e .line) ≤ p → Rising n (es ++ e ∷ []) p
+rising-last n [] e p g h = (g, h)
+rising-last n (x ∷ es) e p g h = (g .0, rising-last (suc (x .line)) es e p (g .1) h)
+
+-- ---- the whole state, where m lines are read
+
+pub record RestLaid (m : ℕ) (σ : Rest) : Type 0 where
+  pub equates : Rising 0 (σ .equates) m
+  pub words : StoredSpread (σ .own .stored)
+
+pub record Laid (m : ℕ) (σ : State) : Type 0 where
+  pub labels : Apart (σ .labels)
+  pub rest : RestLaid m (σ .rest)
+
+module _ (k : Room) (line : ℕ) where
+  says-laid : (s : Statement) (σ : Rest) → RestLaid line σ → ComesEarly (RestLaid (suc line)) (says k line s σ)
+  unfolding says addEquate
+  says-laid nothing σ g = record { equates = rising-more 0 (σ .equates) line (suc line) (omega arith) (g .equates); words = g .words }
+  says-laid (enters s) σ g = record { equates = rising-more 0 (σ .equates) line (suc line) (omega arith) (g .equates); words = g .words }
+  says-laid (equate name e) σ g =
+      let x : Equate = record { name = name; expr = e; place = here (σ .own); line = line } in
+      mapped-comes (λ es. Rising 0 es (suc line)) (RestLaid (suc line)) Early (withEquates σ) (addEquate k x (σ .equates))
+      (λ es h. record { equates = h; words = g .words })
+      (test-has (ComesEarly (λ es. Rising 0 es (suc line))) (ltb (length (σ .equates)) (k .equates)) (value (σ .equates ++ x ∷ [])) (refused 46)
+      (rising-last 0 (σ .equates) x (suc line) (g .equates) (omega arith)) refl)
+  says-laid (own s) σ g =
+      mapped-comes (OwnSpread k line) (RestLaid (suc line)) Early (withOwn σ) (ownLine k line s (σ .own))
+      (λ x h. record { equates = rising-more 0 (σ .equates) line (suc line) (omega arith) (g .equates); words = h })
+      (own-spread k line s (σ .own) (g .words))
+
+  step-laid : (p : Piece) (σ : State) → Laid line σ → ComesEarly (Laid (suc line)) (stepLine k line p σ)
+  unfolding stepParsed
+  step-laid p σ g =
+      let l = lineOf (σ .rest .own .section) p in
+      let said : Rest → Result ℕ Rest = λ ρ. andThen (l .says) (λ s. says k line s ρ) in
+      and-then-comes Apart (Laid (suc line)) Early (labelStep k (here (σ .rest .own)) line (l .label) (σ .labels))
+      (λ ls. mapped (withRest ls) (said (σ .rest)))
+      (label-apart k (here (σ .rest .own)) line (l .label) (σ .labels) (g .labels)) (λ ls h.
+      mapped-comes (RestLaid (suc line)) (Laid (suc line)) Early (withRest ls) (said (σ .rest)) (λ ρ i. record { labels = h; rest = i })
+      (and-then-comes (λ _. Unit) (RestLaid (suc line)) Early (l .says) (λ s. says k line s (σ .rest)) (line-sound (σ .rest .own .section) p)
+      (λ s u. says-laid s (σ .rest) (g .rest))))
+
+at-line-early : {A : Type 0} (P : A → Type 0) (line : ℕ) (x : Result ℕ A) → ComesEarly P x → Comes P (λ (r : Refusal). Early (r .number)) (atLine line x)
+at-line-early P line (value a) h = h
+at-line-early P line (refused n) h = h
+
+abbrev pub StageLaid : ℕ → Result Refusal State → Type 0
+StageLaid m x = Comes (Laid m) (λ (r : Refusal). Early (r .number)) x
+
+lines-laid : (k : Room) (line : ℕ) (ps : List Piece) (σ : State) → Laid line σ → StageLaid (line + length ps) (lineStage k line ps σ)
+unfolding lineStage
+lines-laid k line [] σ g = let e : line + 0 ≡ line = omega arith in rw e g
+lines-laid k line (p ∷ ps) σ g =
+    let e : line + suc (length ps) ≡ suc line + length ps = omega arith in
+    rw e (and-then-comes (Laid (suc line)) (Laid (suc line + length ps)) (λ r. Early (r .number)) (atLine line (stepLine k line p σ)) (lineStage k (suc line) ps)
+    (at-line-early (Laid (suc line)) line (stepLine k line p σ) (step-laid k line p σ g)) (lines-laid k (suc line) ps))
+
+pub stage-laid : (t : List ℕ) (k : Room) → StageLaid (0 + length (linePieces 0 (lines t))) (lineStage k 0 (linePieces 0 (lines t)) start)
+stage-laid t k =
+    lines-laid k 0 (linePieces 0 (lines t)) start (record { labels = tt; rest = record { equates = omega arith; words = omega arith } })
