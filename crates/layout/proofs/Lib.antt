@@ -46,3 +46,10 @@ pub mod RoundHistory
 pub mod RoundLaws
 pub mod StageOrder
 pub mod ChainLaws
+pub mod ResolveLaws
+pub mod ConditionLaws
+pub mod EquatesHold
+pub mod ItemsHold
+pub mod FillLaws
+pub mod DemandLaws
+pub mod HeldLaws

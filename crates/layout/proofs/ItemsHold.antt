@@ -1,0 +1,305 @@
+-- The items of an accepted layout: each has its words between its first and the next item's, and those of li and la load what they say.
+use Prim.Native.Nat.{ℕ, suc, _+_, _-_, _%_, _^_, _<_}
+use mathlib.Core.Path.{_≡_, refl, sym, _∙_, ap, ap₂, subst}
+use mathlib.Core.Logic.{_⊎_, inl, inr}
+use mathlib.Core.List.{List, [], _∷_, _++_, map, append-nil, append-assoc}
+use mathlib.Core.Bool.{Bool, true, false, cond}
+use mathlib.Core.Option.{Option, none, some}
+use native.Mathlib.Omega.{arith}
+use lib.Dec.{leb}
+use lib.IntN.{ℤ, pos, negsuc, _+ℤ_}
+use lib.ListN.{length, take, drop, length-append}
+use lib.Seq.{take-at, drop-at}
+use borrow.Author.Tests.{leb-true, le-ltb}
+use Rattle.numbers.specs.declared.registers.Register.{Register}
+use Rattle.numbers.specs.Results.{Result, value, refused, andThen, mapped}
+use Rattle.numbers.specs.Text.{text, startsWith}
+use Rattle.numbers.specs.Ints.{isSigned12, isSigned32, bits}
+use Rattle.numbers.specs.Numbers.{immOf, imm64Of}
+use Rattle.numbers.specs.Registers.{registerOf}
+use Rattle.numbers.proofs.Bools.{and-left}
+use Rattle.numbers.proofs.Names.{register-below}
+use Rattle.numbers.proofs.Readings.{imm-in32}
+use Rattle.encoder.specs.declared.instruction.Instruction.{Instruction}
+use Rattle.encoder.specs.declared.instruction.Instruction.the-variants.{Addi}
+use Rattle.encoder.specs.Table.{x0}
+use Rattle.encoder.specs.Encoding.{encoding}
+use Rattle.encoder.specs.Run.{Leaves}
+use Rattle.encoder.specs.Split.{loadPair}
+use Rattle.encoder.proofs.Load.{pair-leaves, single-leaves}
+use Rattle.layout.specs.declared.pseudo.Pseudo.{Pseudo}
+use Rattle.layout.specs.declared.pseudo.Pseudo.the-variants.{Li, La}
+use Rattle.layout.specs.Refusals.{atLine}
+use Rattle.layout.specs.Pseudos.{pseudoOperands}
+use Rattle.layout.specs.Expansions.{onRegister, onLabel, liConstant, onNumber, liLoad, expansion}
+use Rattle.layout.specs.State.{ItemLine}
+use Rattle.layout.specs.Rounds.{asNumber}
+use Rattle.layout.specs.Layouts.{ItemAt, Layout, encoded, emission, Emitted, itemAt, emit}
+use Rattle.layout.specs.Demands.{recordedValue, recordedAddress, endsAt, itemWords, liSays, modulo32, Loads, ItemHolds, InOrder}
+use Rattle.layout.proofs.Gives.{Gives, comes-so}
+
+-- a refusal gives no words
+abbrev Words : Type 0
+Words = Result ℕ (List ℕ)
+
+refused-value : {n : ℕ} {vs : List ℕ} → _≡_ {A = Words} (refused n) (value vs) → ⊥
+refused-value e = let q : _≡_ {A = ℕ} 0 1 = cc in omega arith
+
+value-same : (vs ws : List ℕ) → _≡_ {A = Words} (value vs) (value ws) → vs ≡ ws
+value-same vs ws e = cc
+
+-- ---- numbers modulo 2^32
+
+signed-bits : (z : ℤ) → isSigned32 z ≡ true → bits 32 z ≡ modulo32 z
+signed-bits (pos n) e = let h = leb-true n 2147483647 e in omega arith
+signed-bits (negsuc n) e = let h = leb-true n 2147483647 (and-left (leb n 2147483647) true e) in omega arith
+
+signed-mod : (z : ℤ) → isSigned32 z ≡ true → bits 32 z % 2 ^ 32 ≡ modulo32 z
+signed-mod (pos n) e = refl
+signed-mod (negsuc n) e = let h = leb-true n 2147483647 (and-left (leb n 2147483647) true e) in omega arith
+
+-- an upper half that is read as negative
+mod-up : (z : ℤ) → isSigned32 z ≡ true → modulo32 (z +ℤ pos (2 ^ 32)) ≡ modulo32 z
+mod-up (pos n) e = omega arith
+mod-up (negsuc n) e =
+    let h = leb-true n 2147483647 (and-left (leb n 2147483647) true e) in
+    rw (le-ltb 4294967296 (suc n) (omega arith)) (omega arith)
+
+-- ---- words of instructions
+
+encoded-words : (is : List Instruction) (ws : List ℕ) → map encoding is ≡ map value ws → encoded is ≡ value ws
+unfolding encoded
+encoded-words [] [] e = refl
+encoded-words [] (w ∷ ws) e = absurd (let q : _≡_ {A = ℕ} 0 1 = cc in omega arith)
+encoded-words (i ∷ is) [] e = absurd (let q : _≡_ {A = ℕ} 0 1 = cc in omega arith)
+encoded-words (i ∷ is) (w ∷ ws) e =
+    let p : encoding i ≡ value w = cc in
+    let q : map encoding is ≡ map value ws = cc in
+    ap₂ (λ (a : Result ℕ ℕ) (x : Words). andThen a (λ w. mapped (λ ws. w ∷ ws) x)) p (encoded-words is ws q)
+
+-- words that the encoder gives leave what was proved of them
+leaves-as : (vs ws : List ℕ) (r v v′ : ℕ) → _≡_ {A = Words} (value ws) (value vs) → v ≡ v′ → Leaves ws r v → Leaves vs r v′
+leaves-as vs ws r v v′ p q h = subst (λ (us : List ℕ). Leaves us r v′) (value-same ws vs p) (subst (λ (u : ℕ). Leaves ws r u) q h)
+
+-- a number's load leaves it
+load-leaves : (rd : Register) (z : ℤ) (vs : List ℕ) → isSigned32 z ≡ true → rd .0 < 32 → andThen (liLoad rd z) encoded ≡ value vs → 0 < rd .0
+    → Leaves vs (rd .0) (modulo32 z)
+unfolding encoded
+load-leaves rd z vs s below e nonzero = by (isSigned12 z) refl e
+  where
+    by : (c : Bool) → isSigned12 z ≡ c → encoded (cond c (Addi rd x0 z ∷ []) (loadPair rd (bits 32 z))) ≡ value vs → Leaves vs (rd .0) (modulo32 z)
+    by true q e =
+        let r = single-leaves rd z nonzero below q in
+        let w : encoded (Addi rd x0 z ∷ []) ≡ value (r .0 ∷ []) = encoded-words (Addi rd x0 z ∷ []) (r .0 ∷ []) (ap (λ (a : Result ℕ ℕ). a ∷ []) (r .1)) in
+        leaves-as vs (r .0 ∷ []) (rd .0) (bits 32 z) (modulo32 z) (sym w ∙ e) (signed-bits z s) (r .2)
+    by false q e =
+        let r = pair-leaves rd (bits 32 z) nonzero below in
+        leaves-as vs (r .0) (rd .0) (bits 32 z % 2 ^ 32) (modulo32 z) (sym (encoded-words (loadPair rd (bits 32 z)) (r .0) (r .1)) ∙ e) (signed-mod z s) (r .2)
+
+module _ (const : List ℕ → Option ℤ) (label : List ℕ → Option ℕ) where
+  -- the operands' register and what is loaded there
+  record LoadsAs (ops : List (List ℕ)) (vs : List ℕ) (says : List ℕ → Option ℤ) : Type 0 where
+    first : List ℕ
+    second : List ℕ
+    operands : ops ≡ first ∷ second ∷ []
+    register : ℕ
+    isRegister : registerOf first ≡ some register
+    value : ℤ
+    said : says second ≡ some value
+    leaves : 0 < register → Leaves vs register (modulo32 value)
+
+  -- ---- li
+
+  abbrev saysLi : List ℕ → Option ℤ
+  saysLi b = liSays (immOf b) (imm64Of b) (const b)
+
+  li-two : (a b vs : List ℕ) → andThen (onRegister (registerOf a) (λ rd. onNumber (immOf b) b const (liLoad rd))) encoded ≡ value vs
+      → LoadsAs (a ∷ b ∷ []) vs saysLi
+  li-two a b vs e = by (registerOf a) refl e
+    where
+      reg : ℕ → Register
+      reg n = record { 0 = n }
+
+      made : (n : ℕ) → registerOf a ≡ some n → (z : ℤ) → saysLi b ≡ some z → (0 < n → Leaves vs n (modulo32 z)) → LoadsAs (a ∷ b ∷ []) vs saysLi
+      made n r z q l = record { first = a; second = b; operands = refl; register = n; isRegister = r; value = z; said = q; leaves = l }
+
+      says : (o : Option ℤ) → immOf b ≡ o → saysLi b ≡ liSays o (imm64Of b) (const b)
+      says o q = ap (λ (o : Option ℤ). liSays o (imm64Of b) (const b)) q
+
+      number : (n : ℕ) → registerOf a ≡ some n → (z : ℤ) → immOf b ≡ some z → andThen (liLoad (reg n) z) encoded ≡ value vs
+          → LoadsAs (a ∷ b ∷ []) vs saysLi
+      number n r z q e = which (imm-in32 b z q .1)
+        where
+          s : isSigned32 z ≡ true
+          s = imm-in32 b z q .0
+
+          leaves : 0 < n → Leaves vs n (modulo32 z)
+          leaves = load-leaves (reg n) z vs s (register-below a n r) e
+
+          which : (imm64Of b ≡ some z) ⊎ (imm64Of b ≡ some (z +ℤ pos (2 ^ 32))) → LoadsAs (a ∷ b ∷ []) vs saysLi
+          which (inl w) = made n r z (says (some z) q ∙ w) leaves
+          which (inr w) =
+              made n r (z +ℤ pos (2 ^ 32)) (says (some z) q ∙ w) (λ h. subst (λ (v : ℕ). Leaves vs n v) (sym (mod-up z s)) (leaves h))
+
+      name : (n : ℕ) → registerOf a ≡ some n → immOf b ≡ none → (c : Bool) (o : Option ℤ) → const b ≡ o
+          → andThen (cond c (refused 19) (liConstant o (liLoad (reg n)))) encoded ≡ value vs → LoadsAs (a ∷ b ∷ []) vs saysLi
+      name n r q true o w e = absurd (refused-value e)
+      name n r q false none w e = absurd (refused-value e)
+      name n r q false (some z) w e = small (isSigned32 z) refl e
+        where
+          small : (c : Bool) → isSigned32 z ≡ c → andThen (cond c (liLoad (reg n) z) (refused 19)) encoded ≡ value vs → LoadsAs (a ∷ b ∷ []) vs saysLi
+          small true s e = made n r z (says none q ∙ w) (load-leaves (reg n) z vs s (register-below a n r) e)
+          small false s e = absurd (refused-value e)
+
+      then : (n : ℕ) → registerOf a ≡ some n → (o : Option ℤ) → immOf b ≡ o → andThen (onNumber o b const (liLoad (reg n))) encoded ≡ value vs
+          → LoadsAs (a ∷ b ∷ []) vs saysLi
+      then n r (some z) q e = number n r z q e
+      then n r none q e = name n r q (startsWith (text "'") b) (const b) refl e
+
+      by : (o : Option ℕ) → registerOf a ≡ o → andThen (onRegister o (λ rd. onNumber (immOf b) b const (liLoad rd))) encoded ≡ value vs
+          → LoadsAs (a ∷ b ∷ []) vs saysLi
+      by none r e = absurd (refused-value e)
+      by (some n) r e = then n r (immOf b) refl e
+
+  li-loads : (ops : List (List ℕ)) (vs : List ℕ) → andThen (expansion const label Li ops) encoded ≡ value vs → LoadsAs ops vs saysLi
+  unfolding expansion
+  li-loads [] vs e = absurd (refused-value e)
+  li-loads (a ∷ []) vs e = absurd (refused-value e)
+  li-loads (a ∷ b ∷ []) vs e = li-two a b vs e
+  li-loads (a ∷ b ∷ c ∷ cs) vs e = absurd (refused-value e)
+
+  -- ---- la
+
+  abbrev saysLa : List ℕ → Option ℤ
+  saysLa b = asNumber (label b)
+
+  la-two : (a b vs : List ℕ) → andThen (onRegister (registerOf a) (λ rd. onLabel (label b) (λ n. value (loadPair rd n)))) encoded ≡ value vs
+      → LoadsAs (a ∷ b ∷ []) vs saysLa
+  la-two a b vs e = by (registerOf a) refl (label b) refl e
+    where
+      by : (o : Option ℕ) → registerOf a ≡ o → (p : Option ℕ) → label b ≡ p
+          → andThen (onRegister o (λ rd. onLabel p (λ n. value (loadPair rd n)))) encoded ≡ value vs → LoadsAs (a ∷ b ∷ []) vs saysLa
+      by none r p q e = absurd (refused-value e)
+      by (some n) r none q e = absurd (refused-value e)
+      by (some n) r (some v) q e =
+          record {
+            first = a;
+            second = b;
+            operands = refl;
+            register = n;
+            isRegister = r;
+            value = pos v;
+            said = ap asNumber q;
+            leaves = λ h.
+                let rd : Register = record { 0 = n } in
+                let g = pair-leaves (record { 0 = n }) v h (register-below a n r) in
+                leaves-as vs (g .0) n (v % 2 ^ 32) (v % 2 ^ 32) (sym (encoded-words (loadPair rd v) (g .0) (g .1)) ∙ e) refl (g .2);
+          }
+
+  la-loads : (ops : List (List ℕ)) (vs : List ℕ) → andThen (expansion const label La ops) encoded ≡ value vs → LoadsAs ops vs saysLa
+  unfolding expansion
+  la-loads [] vs e = absurd (refused-value e)
+  la-loads (a ∷ []) vs e = absurd (refused-value e)
+  la-loads (a ∷ b ∷ []) vs e = la-two a b vs e
+  la-loads (a ∷ b ∷ c ∷ cs) vs e = absurd (refused-value e)
+
+  -- ---- items one after another
+
+  module _ (base : ℕ) where
+    -- items, their words and their records, the first word being the nth
+    pub data Emission : List ItemLine → ℕ → List ℕ → List ItemAt → Type 0 where
+      no-item : {n : ℕ} → Emission [] n [] []
+      an-item : {x : ItemLine} {xs : List ItemLine} {n : ℕ} {ws : List ℕ} {is : List ItemAt} (vs : List ℕ)
+          → emission const label (x .item) (x .source .bytes) ≡ value vs → Emission xs (n + length vs) ws is
+          → Emission (x ∷ xs) n (vs ++ ws) (itemAt base x n ∷ is)
+
+    -- what is emitted after ws and is
+    pub record EmittedAs (xs : List ItemLine) (ws : List ℕ) (is : List ItemAt) (x : Emitted) : Type 0 where
+      pub words : List ℕ
+      pub items : List ItemAt
+      pub allWords : x .words ≡ ws ++ words
+      pub allItems : x .items ≡ is ++ items
+      pub emits : Emission xs (length ws) words items
+
+    pub emitted-as : (xs : List ItemLine) (ws : List ℕ) (is : List ItemAt) → Gives (EmittedAs xs ws is) (emit base const label xs ws is)
+    unfolding emit
+    emitted-as [] ws is = record { words = []; items = []; allWords = sym (append-nil ws); allItems = sym (append-nil is); emits = no-item }
+    emitted-as (x ∷ xs) ws is = by (emission const label (x .item) (x .source .bytes)) refl (emitted-as xs)
+      where
+        by : (v : Words) → emission const label (x .item) (x .source .bytes) ≡ v
+            → ((ws : List ℕ) (is : List ItemAt) → Gives (EmittedAs xs ws is) (emit base const label xs ws is))
+            → Gives (EmittedAs (x ∷ xs) ws is) (andThen (atLine (x .line) v) (λ vs. emit base const label xs (ws ++ vs) (is ++ itemAt base x (length ws) ∷ [])))
+        by (refused n) q more = tt
+        by (value vs) q more =
+            let is′ = is ++ itemAt base x (length ws) ∷ [] in
+            comes-so (EmittedAs xs (ws ++ vs) is′) (EmittedAs (x ∷ xs) ws is) (λ _. Unit) (λ _. Unit)
+            (λ y r. record {
+              words = vs ++ r .words;
+              items = itemAt base x (length ws) ∷ r .items;
+              allWords = r .allWords ∙ append-assoc ws vs (r .words);
+              allItems = r .allItems ∙ append-assoc is (itemAt base x (length ws) ∷ []) (r .items);
+              emits = an-item vs q (subst (λ (n : ℕ). Emission xs n (r .words) (r .items)) (length-append ws vs) (r .emits));
+            })
+            (λ r u. u) (emit base const label xs (ws ++ vs) is′) (more (ws ++ vs) is′)
+
+    -- ---- each item of a layout whose records say what was looked up
+
+    module _ (l : Layout) (equates : (b : List ℕ) → recordedValue (l .equates) b ≡ const b)
+        (labels : (b : List ℕ) → recordedAddress (l .labels) b ≡ label b) where
+      ends : {xs : List ItemLine} {n : ℕ} {ws : List ℕ} {is : List ItemAt} → Emission xs n ws is → length (l .words) ≡ n + length ws → endsAt l is ≡ n
+      ends {n = n} no-item e = e ∙ omega arith
+      ends (an-item vs q r) e = refl
+
+      middle : (pre vs ws : List ℕ) (n e : ℕ) → length pre ≡ n → e ≡ n + length vs → l .words ≡ pre ++ (vs ++ ws)
+          → take (e - n) (drop n (l .words)) ≡ vs
+      middle pre vs ws n e p q w =
+          ap₂ (λ (k : ℕ) (ys : List ℕ). take k (drop n ys)) (let z : e - n ≡ length vs = omega arith in z) w
+          ∙ ap (take (length vs)) (drop-at pre (vs ++ ws) n p) ∙ take-at vs ws (length vs) refl
+
+      -- with the layout's own look-ups, and as the item's words
+      loads : (s : List ℕ) (vs ws : List ℕ) (says says′ : List ℕ → Option ℤ) → ((b : List ℕ) → says′ b ≡ says b) → ws ≡ vs
+          → LoadsAs (pseudoOperands s) vs says → Loads s ws says′
+      loads s vs ws says says′ f w r =
+          record {
+            first = r .first;
+            second = r .second;
+            operands = r .operands;
+            register = r .register;
+            isRegister = r .isRegister;
+            value = r .value;
+            said = f (r .second) ∙ r .said;
+            leaves = subst (λ (us : List ℕ). 0 < r .register → Leaves us (r .register) (modulo32 (r .value))) (sym w) (r .leaves);
+          }
+
+      item-holds : (x : ItemLine) (above : List ItemAt) (n : ℕ) (vs : List ℕ) (below : List ItemAt)
+          → emission const label (x .item) (x .source .bytes) ≡ value vs → itemWords l (itemAt base x n) below ≡ vs
+          → ItemHolds base l x above (itemAt base x n) below
+      item-holds x above n vs below e w =
+          let s = x .source .bytes in
+          let ws = itemWords l (itemAt base x n) below in
+          record {
+            address = refl;
+            line = refl;
+            kind = refl;
+            source = refl;
+            li = λ q. loads s vs ws saysLi _ (λ b. ap (liSays (immOf b) (imm64Of b)) (equates b)) w
+                (li-loads (pseudoOperands s) vs (ap (λ (o : Option Pseudo). emission const label o s) (sym q) ∙ e));
+            la = λ q. loads s vs ws saysLa _ (λ b. ap asNumber (labels b)) w
+                (la-loads (pseudoOperands s) vs (ap (λ (o : Option Pseudo). emission const label o s) (sym q) ∙ e));
+          }
+
+      in-order : {xs : List ItemLine} {n : ℕ} {ws : List ℕ} {is : List ItemAt} (pre : List ℕ) (above : List ItemAt) → length pre ≡ n
+          → l .words ≡ pre ++ ws → Emission xs n ws is → InOrder (ItemHolds base l) xs above is
+      in-order pre above p w no-item = tt
+      in-order {n = n} pre above p w (an-item {x = x} {ws = ws} {is = is} vs q r) = (
+        item-holds x above n vs is q (middle pre vs ws n (endsAt l is) p (ends r all) w),
+        in-order (pre ++ vs) (above ++ itemAt base x n ∷ []) (omega (arith, length-append pre vs)) (w ∙ sym (append-assoc pre vs ws)) r,
+      )
+        where
+          all : length (l .words) ≡ (n + length vs) + length ws
+          all = ap length w ∙ length-append pre (vs ++ ws) ∙ omega (arith, length-append vs ws)
+
+      pub items-hold : (xs : List ItemLine) (x : Emitted) → l .words ≡ x .words → l .items ≡ x .items → EmittedAs xs [] [] x
+          → InOrder (ItemHolds base l) xs [] (l .items)
+      items-hold xs x p q r =
+          subst (λ (is : List ItemAt). InOrder (ItemHolds base l) xs [] is) (sym (q ∙ r .allItems)) (in-order [] [] refl (p ∙ r .allWords) (r .emits))
