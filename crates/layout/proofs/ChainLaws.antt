@@ -1,5 +1,5 @@
--- Chains of uses and the rounds, over any evaluator of RoundLaws.antt: an equate that is found starts no chain that comes back to a name in it or reaches
--- an undefined one; one that is left over does. So the first line that is left over is the first whose equate starts such a chain.
+-- Chains of uses and the rounds, over any evaluator of RoundLaws.antt: an equate that is found starts no chain that comes back to a name in
+-- it or reaches an undefined one; one that is left over does. So the first line that is left over is the first whose equate starts one.
 use Prim.Native.Nat.{ℕ, zero, suc, _≤_, _<_}
 use mathlib.Core.Path.{_≡_, refl, sym, _∙_, ap}
 use mathlib.Core.Logic.{_⊎_, inl, inr}
@@ -16,13 +16,14 @@ use Rattle.layout.specs.Bytes.{isOneOf}
 use Rattle.layout.specs.Expressions.{Evaluated}
 use Rattle.layout.specs.State.{Equate, State}
 use Rattle.layout.specs.Stage.{isLabel}
-use Rattle.layout.specs.Rounds.{Found, Known, constant, pendingCount, firstPending}
+use Rattle.layout.specs.Rounds.{Found, Known, pendingCount, firstPending}
 use Rattle.layout.specs.Terms.{isUsed}
-use Rattle.layout.specs.Chains.{Among, first, later, nameOf, equateNames, Reaches, uses, onto, Unresolved, undefined, circular, NamesFirst}
+use Rattle.layout.specs.Chains.{Among, first, later, nameOf, Reaches, uses, onto, Unresolved, undefined, circular, NamesFirst}
 use Rattle.layout.specs.Demands.{Chained}
 use Rattle.layout.specs.code.Fits.{Each}
 use Rattle.layout.proofs.StageOrder.{Rising}
-use Rattle.layout.proofs.RoundHistory.{At, here, there, at-same, of-each, Earlier, shown, shown-whole, Low, History, AllFound, Stuck, none-pending, IsFound}
+use Rattle.layout.proofs.RoundHistory.{At, here, there, at-same, of-each, Earlier, shown-whole, History, AllFound, Stuck}
+use Rattle.layout.proofs.RoundHistory.{none-pending, IsFound}
 use Rattle.layout.proofs.RoundLaws.{knownName, none-all, Before, Free, Lacks, Evaluator, never-earlier, found-free, same-one, used-before}
 
 -- ---- members and places
@@ -36,7 +37,7 @@ at-among (k ∷ F) first = (0, k, here, refl)
 at-among (k ∷ F) (later a) = let r = at-among F a in (suc (r .0), r .1, there (r .2), r .3)
 
 -- a name that is none of the equates'
-named-none : {d : Equate} {es : List Equate} (n : List ℕ) → Among d es → isOneOf (map nameOf es) n ≡ false → nameOf d ≡ n → ⊥
+pub named-none : {d : Equate} {es : List Equate} (n : List ℕ) → Among d es → isOneOf (map nameOf es) n ≡ false → nameOf d ≡ n → ⊥
 named-none {d} n (first {xs = es}) e q = by (same (nameOf d) n) (ap (λ (m : List ℕ). same m n) q ∙ same-refl n) e
   where
     by : (c : Bool) → c ≡ true → c || isOneOf (map nameOf es) n ≡ false → ⊥
@@ -293,21 +294,23 @@ module _ (σ : State) (F : List Known) (eq : map (λ k. k .equate) F ≡ σ .res
 
   pub left-over : (i : ℕ) (k : Known) → At F i k → k .found ≡ none → Unresolved σ (k .equate)
   left-over i k a e =
-      let one = k .equate ∷ [] in
       follow (free (map nameOf (k .equate ∷ [])) (σ .rest .equates)) i k (k .equate ∷ []) a e (omega arith) ((rw eq at (among-at a), inl refl), tt)
 
 -- ---- the first line that is left over
 
+-- a pending equate at a line
+abbrev PendingAt : List Known → ℕ → Type 0
+PendingAt F line = (j : ℕ) × (k : Known) × At F j k × (k .found ≡ none) × (k .equate .line ≡ line)
+
 -- there is one
-first-left : (F : List Known) → 0 < pendingCount F → (j : ℕ) × (k : Known) × At F j k × (k .found ≡ none) × (k .equate .line ≡ firstPending F)
+first-left : (F : List Known) → 0 < pendingCount F → PendingAt F (firstPending F)
 unfolding pendingCount firstPending
 first-left [] h = absurd (omega arith)
 first-left (k ∷ ks) h = by (k .found) refl (first-left ks) h
   where
-    by : (o : Option Found) → k .found ≡ o
-        → (0 < pendingCount ks → (j : ℕ) × (l : Known) × At ks j l × (l .found ≡ none) × (l .equate .line ≡ firstPending ks))
+    by : (o : Option Found) → k .found ≡ o → (0 < pendingCount ks → PendingAt ks (firstPending ks))
         → 0 < elim o [ none ↦ suc (pendingCount ks) | some f ↦ pendingCount ks ]
-        → (j : ℕ) × (l : Known) × At (k ∷ ks) j l × (l .found ≡ none) × (l .equate .line ≡ elim o [ none ↦ k .equate .line | some f ↦ firstPending ks ])
+        → PendingAt (k ∷ ks) (elim o [ none ↦ k .equate .line | some f ↦ firstPending ks ])
     by none e more h = (0, k, here, e, refl)
     by (some f) e more h = let r = more h in (suc (r .0), r .1, there (r .2), r .3, r .4)
 
@@ -341,7 +344,7 @@ stuck-names σ turn E m up line s =
     F : List Known
     F = s .left
 
-    r : (j : ℕ) × (k : Known) × At F j k × (k .found ≡ none) × (k .equate .line ≡ firstPending F)
+    r : PendingAt F (firstPending F)
     r = first-left F (s .pending)
 
     waits : (i : ℕ) (k : Known) → At F i k → k .found ≡ none → turn F (k .equate) ≡ value none

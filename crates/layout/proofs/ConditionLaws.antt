@@ -1,57 +1,38 @@
--- Under document 01's conditions no equate's turn is refused: so the rounds say 17 where an equate starts a chain that comes back to a name in it or reaches
--- an undefined one.
+-- Under document 01's conditions no equate's turn is refused: so the rounds say 17 where an equate starts a chain that comes back to a name
+-- in it or reaches an undefined one.
 use Prim.Native.Nat.{ℕ, zero, suc}
-use mathlib.Core.Path.{_≡_, refl, sym, _∙_, ap, ap₂, subst}
-use mathlib.Core.Logic.{_⊎_, inl, inr}
-use mathlib.Core.List.{List, [], _∷_, _++_, map, append-assoc}
-use mathlib.Core.Bool.{Bool, true, false, not, _||_, _&&_, true≢false, false≢true}
+use mathlib.Core.Path.{_≡_, refl, sym, _∙_, ap}
+use mathlib.Core.List.{List, [], _∷_, _++_, map, map-append, append-nil, append-assoc}
+use mathlib.Core.Bool.{Bool, true, false, not, true≢false}
 use mathlib.Core.Option.{Option, none, some}
 use lib.Dec.{eqb}
 use lib.IntN.{ℤ, pos}
 use lib.ListN.{length}
 use Rattle.numbers.specs.Results.{Result, value, refused, andThen}
-use Rattle.numbers.specs.Text.{same}
 use Rattle.numbers.proofs.Bools.{none-some, and-left, and-right}
-use Rattle.numbers.proofs.Prefixes.{same-equal, same-refl}
 use Rattle.layout.specs.Bytes.{isOneOf}
 use Rattle.layout.specs.Refusals.{Refusal, atLine}
 use Rattle.layout.specs.Statements.{exprText}
 use Rattle.layout.specs.Expressions.{Evaluated, positive, term, tokens}
 use Rattle.layout.specs.State.{Equate, State}
-use Rattle.layout.specs.Stage.{isLabel}
 use Rattle.layout.specs.Addresses.{labelAddress}
 use Rattle.layout.specs.Rounds.{Found, Known, pendingEquate, orElse, constant, asNumber, look, turn, Turns, turns, afterTurn, passOne, pass}
 use Rattle.layout.specs.Rounds.{pendingCount, unresolved, rounds}
 use Rattle.layout.specs.Layouts.{resolve}
-use Rattle.layout.specs.Terms.{WellFormed}
 use Rattle.layout.specs.Chains.{Among, nameOf, Worth, ofLabel, ofEquate, areDistinct, Conditions}
 use Rattle.layout.specs.Demands.{Chained}
 use Rattle.layout.specs.code.Fits.{Each}
 use Rattle.layout.proofs.Each.{each-append}
-use Rattle.layout.proofs.Gives.{Comes, comes-so, and-then-comes}
+use Rattle.layout.proofs.Gives.{Comes, and-then-comes}
 use Rattle.layout.proofs.Ending.{equates-all}
-use Rattle.layout.proofs.SumLaws.{Summed, never-refused, summed-whole}
+use Rattle.layout.proofs.SumLaws.{never-refused, summed-whole}
 use Rattle.layout.proofs.RoundHistory.{At, here, there, at-same, of-each, given}
 use Rattle.layout.proofs.RoundLaws.{knownName, some-one, at-middle}
-use Rattle.layout.proofs.ChainLaws.{among-at, none-chained}
-use Rattle.layout.proofs.ResolveLaws.{placeOf, Tried, TurnSays, named-label, named-again, tries, turn-says, tried, turn-said}
-use Rattle.layout.proofs.ResolveLaws.{own-evaluator, RoundsRefused, RoundsCome, resolve-comes}
+use Rattle.layout.proofs.ChainLaws.{among-at, named-none, none-chained}
+use Rattle.layout.proofs.ResolveLaws.{placeOf, TurnSays, named-label, named-again, tries, turn-says, tried, Sums, turn-said}
+use Rattle.layout.proofs.ResolveLaws.{own-evaluator, RoundsCome, resolve-comes}
 
 -- ---- distinct names
-
--- another equate's name is another
-apart : {u : ℕ} {l : Known} (n : List ℕ) (xs : List Known) → isOneOf (map nameOf (map (λ k. k .equate) xs)) n ≡ false → At xs u l → knownName l ≡ n → ⊥
-apart n (y ∷ xs) g here q = by (same (knownName y) n) (ap (λ (m : List ℕ). same m n) q ∙ same-refl n) g
-  where
-    by : (c : Bool) → c ≡ true → c || isOneOf (map nameOf (map (λ k. k .equate) xs)) n ≡ false → ⊥
-    by true p g = true≢false g
-    by false p g = false≢true p
-apart n (y ∷ xs) g (there b) q = by (same (knownName y) n) g (λ h. apart n xs h b q)
-  where
-    by : (c : Bool) → c || isOneOf (map nameOf (map (λ k. k .equate) xs)) n ≡ false
-        → (isOneOf (map nameOf (map (λ k. k .equate) xs)) n ≡ false → ⊥) → ⊥
-    by true g more = true≢false g
-    by false g more = more g
 
 not-true : (c : Bool) → not c ≡ true → c ≡ false
 not-true true e = sym e
@@ -63,15 +44,11 @@ alone n ns d = not-true (isOneOf ns n) (and-left (not (isOneOf ns n)) (areDistin
 distinct-at : {t u : ℕ} {k l : Known} (ks : List Known) → areDistinct (map nameOf (map (λ k. k .equate) ks)) ≡ true → At ks t k → At ks u l
     → knownName k ≡ knownName l → t ≡ u
 distinct-at (x ∷ xs) d here here q = refl
-distinct-at (x ∷ xs) d here (there b) q = absurd (apart (knownName x) xs (alone (knownName x) (map nameOf (map (λ k. k .equate) xs)) d) b (sym q))
-distinct-at (x ∷ xs) d (there a) here q = absurd (apart (knownName x) xs (alone (knownName x) (map nameOf (map (λ k. k .equate) xs)) d) a q)
+distinct-at (x ∷ xs) d here (there b) q = absurd (named-none (knownName x) (among-at b) (alone (knownName x) (map nameOf (map (λ k. k .equate) xs)) d) (sym q))
+distinct-at (x ∷ xs) d (there a) here q = absurd (named-none (knownName x) (among-at a) (alone (knownName x) (map nameOf (map (λ k. k .equate) xs)) d) q)
 distinct-at (x ∷ xs) d (there a) (there b) q =
     let ns = map nameOf (map (λ k. k .equate) xs) in
     ap suc (distinct-at xs (and-right (not (isOneOf ns (knownName x))) (areDistinct ns) d) a b q)
-
-map-append : (xs ys : List Known) → map (λ k. k .equate) (xs ++ ys) ≡ map (λ k. k .equate) xs ++ map (λ k. k .equate) ys
-map-append [] ys = refl
-map-append (x ∷ xs) ys = ap (λ es. x .equate ∷ es) (map-append xs ys)
 
 worth-as : (base : ℕ) (σ : State) (n n′ : List ℕ) (z z′ : ℤ) → n ≡ n′ → z ≡ z′ → Worth base σ n z → Worth base σ n′ z′
 worth-as base σ n n′ z z′ p q h = rw (p, q) at h
@@ -119,9 +96,6 @@ module _ (base : ℕ) (σ : State) (C : Conditions base σ) where
     safe-turn : SafeTurn (k .equate) (turn base σ S (k .equate))
     safe-turn = by (turn base σ S (k .equate)) refl
       where
-        e : Equate
-        e = k .equate
-
         never : (m : ℕ) → TurnSays base σ S (k .equate) (refused m) → ⊥
         never m (named-label p l) = true≢false (sym l ∙ C .noLabel (k .equate) among)
         never m (named-again p l) = l unnamed
@@ -133,7 +107,7 @@ module _ (base : ℕ) (σ : State) (C : Conditions base σ) where
         by : (v : Evaluated) → turn base σ S (k .equate) ≡ v → SafeTurn (k .equate) v
         by (value (some z)) q =
             let ts = tokens (exprText (k .equate .expr)) in
-            let s : Summed (look base σ S) (placeOf base σ (k .equate)) (pos 0) (term positive positive) (tokens (exprText (k .equate .expr))) z =
+            let s : Sums base σ S (k .equate) z =
             turn-said base σ S (k .equate) (value (some z)) (tried base σ S (k .equate) (some z) q) in
             ofEquate (k .equate) among (look base σ S) grounded (s .terms) (s .are) z
             (summed-whole (look base σ S) (placeOf base σ (k .equate)) (term positive positive) ts z s)
@@ -150,8 +124,8 @@ module _ (base : ℕ) (σ : State) (C : Conditions base σ) where
   moved : (done ks : List Known) (k l : Known) → k .equate ≡ l .equate → map (λ k. k .equate) (done ++ k ∷ ks) ≡ σ .rest .equates
       → map (λ k. k .equate) ((done ++ l ∷ []) ++ ks) ≡ σ .rest .equates
   moved done ks k l q e =
-      ap (map (λ k. k .equate)) (append-assoc done (l ∷ []) ks) ∙ map-append done (l ∷ ks)
-      ∙ ap (λ (x : Equate). map (λ k. k .equate) done ++ x ∷ map (λ k. k .equate) ks) (sym q) ∙ sym (map-append done (k ∷ ks)) ∙ e
+      ap (map (λ k. k .equate)) (append-assoc done (l ∷ []) ks) ∙ map-append (λ k. k .equate) done (l ∷ ks)
+      ∙ ap (λ (x : Equate). map (λ k. k .equate) done ++ x ∷ map (λ k. k .equate) ks) (sym q) ∙ sym (map-append (λ k. k .equate) done (k ∷ ks)) ∙ e
 
   -- with the turn of k done
   abbrev SafeFirst : List Known → Turns → Type 0
@@ -178,11 +152,7 @@ module _ (base : ℕ) (σ : State) (C : Conditions base σ) where
   pass-safe : (r : ℕ) (done ks : List Known) (n : ℕ) → map (λ k. k .equate) (done ++ ks) ≡ σ .rest .equates → Each Grounded done → Each Grounded ks
       → Comes (λ x. Safe (x .known)) (λ _. ⊥) (pass base σ r done ks n)
   unfolding pass
-  pass-safe r done [] n q g h = record { equates = sym (ap (map (λ k. k .equate)) (append-none done)) ∙ q; each = g }
-    where
-      append-none : (xs : List Known) → xs ++ [] ≡ xs
-      append-none [] = refl
-      append-none (x ∷ xs) = ap (λ r. x ∷ r) (append-none xs)
+  pass-safe r done [] n q g h = record { equates = sym (ap (map (λ k. k .equate)) (append-nil done)) ∙ q; each = g }
   pass-safe r done (k ∷ ks) n q g h =
       and-then-comes (SafeFirst ks) (λ x. Safe (x .known)) (λ _. ⊥) (passOne base σ r done k ks n (k .found))
       (λ x. pass base σ r (x .known) ks (x .evaluations)) (first-safe r done k ks n q g h)
@@ -196,7 +166,8 @@ module _ (base : ℕ) (σ : State) (C : Conditions base σ) where
   rounds-safe : (fuel r : ℕ) (ks : List Known) (n : ℕ) → Safe ks → SafeRounds (rounds base σ fuel r ks n)
   unfolding rounds
   rounds-safe zero r ks n s = refl
-  rounds-safe (suc fuel) r ks n s = by (eqb (pendingCount ks) 0) (pass base σ r [] ks n) (pass-safe r [] ks n (s .equates) tt (s .each)) (rounds-safe fuel (suc r))
+  rounds-safe (suc fuel) r ks n s =
+      by (eqb (pendingCount ks) 0) (pass base σ r [] ks n) (pass-safe r [] ks n (s .equates) tt (s .each)) (rounds-safe fuel (suc r))
     where
       last : (x : Turns) (c : Bool) → SafeRounds (rounds base σ fuel (suc r) (x .known) (x .evaluations))
           → SafeRounds (elim c [ true ↦ refused (unresolved (x .known)) | false ↦ rounds base σ fuel (suc r) (x .known) (x .evaluations) ])
@@ -224,8 +195,8 @@ module _ (base : ℕ) (σ : State) (C : Conditions base σ) where
   -- where an equate starts such a chain, the rounds say 17
   pub chained-unresolved : Chained σ → (r : Refusal) × (resolve base σ (σ .rest .equates) ≡ refused r) × (r .number ≡ 17)
   chained-unresolved u =
-      by (resolve base σ es) refl
-      (rounds-safe (suc (length es)) 1 (map pendingEquate es) 0 (record { equates = equates-all es; each = start-safe es })) (resolve-comes base σ es)
+      let s : Safe (map pendingEquate es) = record { equates = equates-all es; each = start-safe es } in
+      by (resolve base σ es) refl (rounds-safe (suc (length es)) 1 (map pendingEquate es) 0 s) (resolve-comes base σ es)
     where
       es : List Equate
       es = σ .rest .equates

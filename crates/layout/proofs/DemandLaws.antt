@@ -12,30 +12,30 @@ use lib.IntN.{ℤ}
 use lib.ListN.{length, take, drop}
 use borrow.Author.Tests.{ltb-true, ltb-false, le-ltb}
 use Rattle.numbers.specs.Results.{Result, value, refused, andThen}
-use Rattle.numbers.proofs.Bools.{and-left, and-right}
-use Rattle.layout.specs.Bytes.{le}
+use Rattle.numbers.proofs.Bools.{and-left}
 use Rattle.layout.specs.Pieces.{lines, linePieces}
 use Rattle.layout.specs.Refusals.{Refusal, atLine}
 use Rattle.layout.specs.Limits.{baseLimit, textLimit, Lent, roomOf}
 use Rattle.layout.specs.State.{Equate, ItemLine, LabelWord, State, start}
 use Rattle.layout.specs.Stage.{lineStage}
-use Rattle.layout.specs.Addresses.{LabelAt, placed, ordered, labelAddress, fillOne, fill}
-use Rattle.layout.specs.Rounds.{Known, constant, asNumber, turn, Turns}
-use Rattle.layout.specs.Layouts.{EquateAt, ItemAt, Layout, emission, Emitted, itemAt, emit, foundEquates, refuseIf, checkBytes}
+use Rattle.layout.specs.Addresses.{placed, ordered, labelAddress, fillOne, fill}
+use Rattle.layout.specs.Rounds.{constant, turn, Turns}
+use Rattle.layout.specs.Layouts.{ItemAt, Layout, emission, Emitted, itemAt, emit, foundEquates, refuseIf, checkBytes}
 use Rattle.layout.specs.Layouts.{resolve, layout, afterLines, layoutOf}
-use Rattle.layout.specs.Chains.{Among, first, later, Unresolved, NamesFirst, Conditions}
-use Rattle.layout.specs.Demands.{recordedValue, recordedAddress, sumOfRounds, EquateHolds, InOrder, LabelWordHolds, BeforeRounds, Holds, Chained}
+use Rattle.layout.specs.Chains.{Among, first, later, NamesFirst, Conditions}
+use Rattle.layout.specs.Demands.{recordedAddress, EquateHolds, OneByOne, LabelWordHolds, BeforeRounds, Holds, Chained}
 use Rattle.layout.specs.code.Fits.{Each, Fits}
-use Rattle.layout.proofs.Gives.{Comes, comes-so, and-then-comes}
+use Rattle.layout.proofs.ResultLaws.{refused-value, value-same, refused-same}
+use Rattle.layout.proofs.Gives.{Comes, and-then-comes}
 use Rattle.layout.proofs.Kept.{stage-fits}
 use Rattle.layout.proofs.Ending.{triangle}
 use Rattle.layout.proofs.Emissions.{WordsFit, PseudoRefusal, emission-fits}
 use Rattle.layout.proofs.Fields.{LayoutFits, layout-fits}
-use Rattle.layout.proofs.StageOrder.{isEarly, Early, Laid, StageLaid, stage-laid}
-use Rattle.layout.proofs.RoundHistory.{AllFound, IsFound, none-pending}
+use Rattle.layout.proofs.StageOrder.{isEarly, Early, EarlyAt, Laid, StageLaid, stage-laid}
+use Rattle.layout.proofs.RoundHistory.{AllFound, none-pending}
 use Rattle.layout.proofs.RoundLaws.{spent-sum}
 use Rattle.layout.proofs.ChainLaws.{stuck-names}
-use Rattle.layout.proofs.ResolveLaws.{turn-early, own-evaluator, TurnRefused, RoundsRefused, by-turn, by-end, RoundsCome, resolve-comes}
+use Rattle.layout.proofs.ResolveLaws.{turn-early, own-evaluator, RoundsRefused, by-turn, by-end, RoundsCome, resolve-comes}
 use Rattle.layout.proofs.ConditionLaws.{chained-unresolved}
 use Rattle.layout.proofs.EquatesHold.{value-recorded, address-recorded, equates-hold}
 use Rattle.layout.proofs.FillLaws.{WordHolds, fill-holds, address-below}
@@ -48,15 +48,6 @@ early-some n e = ltb-true 0 n (and-left (ltb 0 n) (not (eqb n 17)) e)
 
 not-late : (n : ℕ) → n ≡ 17 → Early n → ⊥
 not-late n q e = let h : isEarly 17 ≡ true = ap isEarly (sym q) ∙ e in let z : _≡_ {A = ℕ} 0 1 = cc in omega arith
-
-refused-same : {A : Type 0} {r s : Refusal} → _≡_ {A = Result Refusal A} (refused r) (refused s) → r ≡ s
-refused-same e = cc
-
-refused-value : {A : Type 0} {r : Refusal} {a : A} → _≡_ {A = Result Refusal A} (refused r) (value a) → ⊥
-refused-value e = let q : _≡_ {A = ℕ} 0 1 = cc in omega arith
-
-value-same : {A : Type 0} {a b : A} → _≡_ {A = Result Refusal A} (value a) (value b) → a ≡ b
-value-same e = cc
 
 -- ---- the way to the rounds
 
@@ -73,25 +64,28 @@ data Way (t : List ℕ) (base : ℕ) (k : Lent) (o : Result Refusal Layout) : Ty
   before : (r : Refusal) → Early (r .number) → o ≡ refused r → Way t base k o
   rounds : (σ : State) (bytes : List ℕ) → BeforeRounds t base k σ bytes → o ≡ afterRounds base σ bytes (ownRounds base σ) → Way t base k o
 
-early-13 : (look : List ℕ → Option ℕ) (ws : List LabelWord) (bytes : List ℕ) → Comes (λ _. Unit) (λ (r : Refusal). Early (r .number)) (fill look ws bytes)
+-- the number of a refusal, if it is one, is neither 0 nor 17
+abbrev Timely : {A : Type 0} → Result Refusal A → Type 0
+Timely x = Comes (λ _. Unit) EarlyAt x
+
+early-13 : (look : List ℕ → Option ℕ) (ws : List LabelWord) (bytes : List ℕ) → Timely (fill look ws bytes)
 unfolding fill
 early-13 look [] bytes = tt
 early-13 look (w ∷ ws) bytes =
-    and-then-comes (λ _. Unit) (λ _. Unit) (λ (r : Refusal). Early (r .number)) (atLine (w .line) (fillOne (look (w .name)) w bytes)) (fill look ws)
+    and-then-comes (λ _. Unit) (λ _. Unit) EarlyAt (atLine (w .line) (fillOne (look (w .name)) w bytes)) (fill look ws)
     (by (look (w .name))) (λ bs u. early-13 look ws bs)
   where
-    by : (o : Option ℕ) → Comes (λ _. Unit) (λ (r : Refusal). Early (r .number)) (atLine (w .line) (fillOne o w bytes))
+    by : (o : Option ℕ) → Timely (atLine (w .line) (fillOne o w bytes))
     by none = refl
     by (some a) = tt
 
-early-1 : (line : ℕ) (t : List ℕ) → Comes (λ _. Unit) (λ (r : Refusal). Early (r .number)) (checkBytes line t)
+early-1 : (line : ℕ) (t : List ℕ) → Timely (checkBytes line t)
 unfolding checkBytes
 early-1 line [] = tt
 early-1 line (b ∷ bs) = by (ltb 127 b) (cond (eqb b 10) (suc line) line) (λ l. early-1 l bs)
   where
-    by : (c : Bool) (n : ℕ) → ((l : ℕ) → Comes (λ _. Unit) (λ (r : Refusal). Early (r .number)) (checkBytes l bs))
-        → Comes {A = Unit} (λ _. Unit) (λ (r : Refusal). Early (r .number))
-        (elim c [ true ↦ refused (record { number = 1; line = line }) | false ↦ checkBytes n bs ])
+    by : (c : Bool) (n : ℕ) → ((l : ℕ) → Timely (checkBytes l bs))
+        → Timely {A = Unit} (elim c [ true ↦ refused (record { number = 1; line = line }) | false ↦ checkBytes n bs ])
     by true n more = refl
     by false n more = more n
 
@@ -99,47 +93,42 @@ way : (t : List ℕ) (base : ℕ) (k : Lent) → Way t base k (layoutOf t base k
 unfolding layoutOf afterLines
 way t base k = by (ltb baseLimit base) refl (ltb textLimit (length t)) refl (checkBytes 0 t) refl (early-1 0 t)
   where
-    Early-at : Refusal → Type 0
-    Early-at r = Early (r .number)
+    read : Result Refusal State
+    read = lineStage (roomOf k) 0 (linePieces 0 (lines t)) start
 
-    Read : Result Refusal State → Result Refusal Layout
-    Read x = andThen x (afterLines base)
+    filled : State → Result Refusal (List ℕ)
+    filled σ = fill (labelAddress base σ) (σ .rest .own .stored .labelWords) (σ .rest .own .stored .bytes)
 
     -- the label words
-    fills : (σ : State) → (b : (bytes : List ℕ) → fill (labelAddress base σ) (σ .rest .own .stored .labelWords) (σ .rest .own .stored .bytes) ≡ value bytes
-        → BeforeRounds t base k σ bytes) → (x : Result Refusal (List ℕ))
-        → fill (labelAddress base σ) (σ .rest .own .stored .labelWords) (σ .rest .own .stored .bytes) ≡ x → Comes (λ _. Unit) Early-at x
-        → Way t base k (andThen x (λ bytes. afterRounds base σ bytes (ownRounds base σ)))
+    fills : (σ : State) → ((bytes : List ℕ) → filled σ ≡ value bytes → BeforeRounds t base k σ bytes) → (x : Result Refusal (List ℕ)) → filled σ ≡ x
+        → Timely x → Way t base k (andThen x (λ bytes. afterRounds base σ bytes (ownRounds base σ)))
     fills σ b (refused r) q s = before r s refl
     fills σ b (value bytes) q s = rounds σ bytes (b bytes q) refl
 
     -- the lines
-    stages : base ≤ baseLimit → length t ≤ textLimit → checkBytes 0 t ≡ value tt → (x : Result Refusal State)
-        → lineStage (roomOf k) 0 (linePieces 0 (lines t)) start ≡ x → StageLaid (0 + length (linePieces 0 (lines t))) x → Way t base k (Read x)
+    stages : base ≤ baseLimit → length t ≤ textLimit → checkBytes 0 t ≡ value tt → (x : Result Refusal State) → read ≡ x
+        → StageLaid (0 + length (linePieces 0 (lines t))) x → Way t base k (andThen x (afterLines base))
     stages low short plain (refused r) q s = before r s refl
     stages low short plain (value σ) q s =
-        fills σ (λ bytes f. record { low = low; short = short; plain = plain; read = q; filled = f })
-        (fill (labelAddress base σ) (σ .rest .own .stored .labelWords) (σ .rest .own .stored .bytes)) refl
+        fills σ (λ bytes f. record { low = low; short = short; plain = plain; read = q; filled = f }) (filled σ) refl
         (early-13 (labelAddress base σ) (σ .rest .own .stored .labelWords) (σ .rest .own .stored .bytes))
 
     by : (c : Bool) → ltb baseLimit base ≡ c → (d : Bool) → ltb textLimit (length t) ≡ d → (x : Result Refusal Unit) → checkBytes 0 t ≡ x
-        → Comes (λ _. Unit) Early-at x
-        → Way t base k (andThen (refuseIf c 40 0) (λ _. andThen (refuseIf d 41 0) (λ _. andThen x (λ _. Read (lineStage (roomOf k) 0 (linePieces 0 (lines t)) start)))))
+        → Timely x
+        → Way t base k (andThen (refuseIf c 40 0) (λ _. andThen (refuseIf d 41 0) (λ _. andThen x (λ _. andThen read (afterLines base)))))
     by true p d q x r s = before _ refl refl
     by false p true q x r s = before _ refl refl
     by false p false q (refused r) e s = before r s refl
     by false p false q (value u) e s =
-        stages (ltb-false baseLimit base p) (ltb-false textLimit (length t) q) e (lineStage (roomOf k) 0 (linePieces 0 (lines t)) start) refl
-        (stage-laid t (roomOf k))
+        stages (ltb-false baseLimit base p) (ltb-false textLimit (length t) q) e read refl (stage-laid t (roomOf k))
 
 -- where nothing before the rounds refuses, the rounds decide
 from-rounds : (t : List ℕ) (base : ℕ) (k : Lent) (σ : State) (bytes : List ℕ) → BeforeRounds t base k σ bytes
     → layoutOf t base k ≡ afterRounds base σ bytes (ownRounds base σ)
 unfolding layoutOf afterLines
 from-rounds t base k σ bytes b =
-    ap (λ (c : Bool). andThen (refuseIf c 40 0) (λ _. andThen (refuseIf (ltb textLimit (length t)) 41 0) (λ _. andThen (checkBytes 0 t) (λ _. whole))))
-    (le-ltb baseLimit base (b .low))
-    ∙ ap (λ (c : Bool). andThen (refuseIf c 41 0) (λ _. andThen (checkBytes 0 t) (λ _. whole))) (le-ltb textLimit (length t) (b .short))
+    ap (λ (c : Bool). andThen (refuseIf c 40 0) (λ _. short (ltb textLimit (length t)))) (le-ltb baseLimit base (b .low))
+    ∙ ap short (le-ltb textLimit (length t) (b .short))
     ∙ ap (λ (x : Result Refusal Unit). andThen x (λ _. whole)) (b .plain)
     ∙ ap (λ (x : Result Refusal State). andThen x (afterLines base)) (b .read)
     ∙ ap (λ (x : Result Refusal (List ℕ)). andThen x (λ bytes. afterRounds base σ bytes (ownRounds base σ))) (b .filled)
@@ -147,15 +136,18 @@ from-rounds t base k σ bytes b =
     whole : Result Refusal Layout
     whole = andThen (lineStage (roomOf k) 0 (linePieces 0 (lines t)) start) (afterLines base)
 
+    short : Bool → Result Refusal Layout
+    short c = andThen (refuseIf c 41 0) (λ _. andThen (checkBytes 0 t) (λ _. whole))
+
 -- ---- 17
 
 -- an item's refusal is neither 0 nor 17
 emit-early : (base : ℕ) (const : List ℕ → Option ℤ) (label : List ℕ → Option ℕ) (xs : List ItemLine) (ws : List ℕ) (is : List ItemAt)
-    → Comes (λ _. Unit) (λ (r : Refusal). Early (r .number)) (emit base const label xs ws is)
+    → Timely (emit base const label xs ws is)
 unfolding emit
 emit-early base const label [] ws is = tt
 emit-early base const label (x ∷ xs) ws is =
-    and-then-comes (λ _. Unit) (λ _. Unit) (λ (r : Refusal). Early (r .number)) (atLine (x .line) (emission const label (x .item) (x .source .bytes)))
+    and-then-comes (λ _. Unit) (λ _. Unit) EarlyAt (atLine (x .line) (emission const label (x .item) (x .source .bytes)))
     (λ vs. emit base const label xs (ws ++ vs) (is ++ itemAt base x (length ws) ∷ []))
     (by (emission const label (x .item) (x .source .bytes)) (emission-fits const label (x .item) (x .source .bytes)))
     (λ vs u. emit-early base const label xs (ws ++ vs) _)
@@ -165,26 +157,29 @@ emit-early base const label (x ∷ xs) ws is =
     number n (inr (inl p)) = ap isEarly p
     number n (inr (inr p)) = ap isEarly p
 
-    by : (v : Result ℕ (List ℕ)) → Comes (WordsFit const (x .item) (x .source .bytes)) PseudoRefusal v
-        → Comes (λ _. Unit) (λ (r : Refusal). Early (r .number)) (atLine (x .line) v)
+    by : (v : Result ℕ (List ℕ)) → Comes (WordsFit const (x .item) (x .source .bytes)) PseudoRefusal v → Timely (atLine (x .line) v)
     by (value vs) g = tt
     by (refused n) g = number n g
 
--- what refuses after the rounds began: a turn or an item, neither by 0 nor by 17, or the end of the rounds
+-- what refuses after the rounds began: a turn or an item, neither by 0 nor by 17; or the end of the rounds, by 17
+abbrev Refuses : Result Refusal Turns → Refusal → Type 0
+Refuses x r = EarlyAt r ⊎ ((r .number ≡ 17) × (x ≡ refused r))
+
 after-refused : (base : ℕ) (σ : State) (bytes : List ℕ) (x : Result Refusal Turns) → RoundsCome base σ (σ .rest .equates) x
-    → (r : Refusal) → afterRounds base σ bytes x ≡ refused r → Early (r .number) ⊎ ((r .number ≡ 17) × (x ≡ refused r))
+    → (r : Refusal) → afterRounds base σ bytes x ≡ refused r → Refuses x r
 after-refused base σ bytes (refused s) g r e = by g
   where
     p : s ≡ r
     p = refused-same e
 
-    by : RoundsRefused base σ (σ .rest .equates) s → Early (r .number) ⊎ ((r .number ≡ 17) × (_≡_ {A = Result Refusal Turns} (refused s) (refused r)))
+    by : RoundsRefused base σ (σ .rest .equates) s → Refuses (refused s) r
     by (by-turn t) = inl (ap (λ (q : Refusal). isEarly (q .number)) (sym p) ∙ turn-early base σ (t .seen) (t .equate) (s .number) (t .refuses))
     by (by-end q w) = inr (ap (λ (q : Refusal). q .number) (sym p) ∙ q, ap refused p)
-after-refused base σ bytes (value x) g r e = by (emit base (constant (x .known)) (labelAddress base σ) (σ .rest .own .items .list) [] []) (emit-early base (constant (x .known)) (labelAddress base σ) (σ .rest .own .items .list) [] []) e
+after-refused base σ bytes (value x) g r e =
+    by (emit base (constant (x .known)) (labelAddress base σ) (σ .rest .own .items .list) [] [])
+    (emit-early base (constant (x .known)) (labelAddress base σ) (σ .rest .own .items .list) [] []) e
   where
-    by : (y : Result Refusal Emitted) → Comes (λ _. Unit) (λ (r : Refusal). Early (r .number)) y → andThen y (λ e. value (layout base σ bytes x e)) ≡ refused r
-        → Early (r .number) ⊎ ((r .number ≡ 17) × (_≡_ {A = Result Refusal Turns} (value x) (refused r)))
+    by : (y : Result Refusal Emitted) → Timely y → andThen y (λ e. value (layout base σ bytes x e)) ≡ refused r → Refuses (value x) r
     by (refused s) h e = inl (ap (λ (q : Refusal). isEarly (q .number)) (sym (refused-same e)) ∙ h)
     by (value y) h e = absurd (refused-value (sym e))
 
@@ -192,15 +187,17 @@ after-refused base σ bytes (value x) g r e = by (emit base (constant (x .known)
 pub refusal-numbered : (t : List ℕ) (base : ℕ) (k : Lent) (r : Refusal) → layoutOf t base k ≡ refused r → 0 < r .number
 refusal-numbered t base k r e = by (way t base k)
   where
-    last : {A : Type 0} → Early (r .number) ⊎ ((r .number ≡ 17) × A) → 0 < r .number
-    last (inl h) = early-some (r .number) h
-    last (inr h) = omega (arith, h .0)
+    last : (x : Result Refusal Turns) → Refuses x r → 0 < r .number
+    last x (inl h) = early-some (r .number) h
+    last x (inr h) = omega (arith, h .0)
 
     by : Way t base k (layoutOf t base k) → 0 < r .number
     by (before s h q) = early-some (r .number) (ap (λ (x : Refusal). isEarly (x .number)) (refused-same (sym e ∙ q)) ∙ h)
-    by (rounds σ bytes b q) = last (after-refused base σ bytes (ownRounds base σ) (resolve-comes base σ (σ .rest .equates)) r (sym q ∙ e))
+    by (rounds σ bytes b q) =
+        last (ownRounds base σ) (after-refused base σ bytes (ownRounds base σ) (resolve-comes base σ (σ .rest .equates)) r (sym q ∙ e))
 
--- for every text: where the answer is 17, its line is the first whose equate starts a chain of uses that comes back to a name in it or reaches an undefined one
+-- for every text: where the answer is 17, its line is the first whose equate starts a chain of uses that comes back to a name in it or reaches
+-- an undefined one
 pub unresolved-line : (t : List ℕ) (base : ℕ) (k : Lent) (r : Refusal) → layoutOf t base k ≡ refused r → r .number ≡ 17
     → (σ : State) × (bytes : List ℕ) × BeforeRounds t base k σ bytes × NamesFirst σ (r .line)
 unresolved-line t base k r e n = by (way t base k)
@@ -216,7 +213,7 @@ unresolved-line t base k r e n = by (way t base k)
         last (by-end p s) =
             stuck-names σ (turn base σ) (own-evaluator base σ) (0 + length (linePieces 0 (lines t))) (laid .rest .equates) (r .line) s
 
-    rest : (σ : State) (bytes : List ℕ) → BeforeRounds t base k σ bytes → Early (r .number) ⊎ ((r .number ≡ 17) × (ownRounds base σ ≡ refused r))
+    rest : (σ : State) (bytes : List ℕ) → BeforeRounds t base k σ bytes → Refuses (ownRounds base σ) r
         → (σ : State) × (bytes : List ℕ) × BeforeRounds t base k σ bytes × NamesFirst σ (r .line)
     rest σ bytes b (inl h) = absurd (not-late (r .number) n h)
     rest σ bytes b (inr h) = (σ, bytes, b, names σ bytes b (h .1))
@@ -268,7 +265,8 @@ module _ (t : List ℕ) (base : ℕ) (k : Lent) (σ : State) (bytes : List ℕ) 
       record {
         address = h .0;
         known = labels (w .name) ∙ h .1;
-        small = address-below t base σ (σ .labels) (w .name) (h .0) (b .low) (omega (arith, fits .rest .own .stored .room)) (fits .labels .each) (h .1);
+        small = address-below t base σ (σ .labels) (w .name) (h .0) (b .low) (omega (arith, fits .rest .own .stored .room))
+            (fits .labels .each) (h .1);
         stands = ap (λ (xs : List ℕ). take 4 (drop (w .at) xs)) d ∙ h .2;
       }
 
@@ -281,7 +279,7 @@ module _ (t : List ℕ) (base : ℕ) (k : Lent) (σ : State) (bytes : List ℕ) 
       let found = none-pending (x .known) (a .found) in
       record {
         labels = labels-hold;
-        equates = subst (λ (es : List Equate). InOrder (EquateHolds base σ l) es [] (foundEquates (x .known))) (a .equates)
+        equates = subst (λ (es : List Equate). OneByOne (EquateHolds base σ l) es [] (foundEquates (x .known))) (a .equates)
             (equates-hold base σ (a .last) (x .known) (a .history) found l refl labels-hold);
         labelWords = words-hold l labels-hold refl;
         items = items-hold (constant (x .known)) (labelAddress base σ) base l (value-recorded (x .known)) labels-hold

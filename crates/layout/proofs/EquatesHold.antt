@@ -1,11 +1,11 @@
--- The equates of an accepted layout: what is looked up in the records is what the rounds and the lines found, and each equate's value, name and round hold.
+-- The equates of an accepted layout: what is looked up in the records is what the rounds and the lines found, and each equate's value, name
+-- and round hold.
 use Prim.Native.Nat.{ℕ}
 use mathlib.Core.Path.{_≡_, refl, sym, _∙_, ap, ap₂, subst}
 use mathlib.Core.List.{List, [], _∷_, _++_, map, append-assoc}
 use mathlib.Core.Bool.{Bool, true, false, true≢false}
 use mathlib.Core.Option.{Option, none, some}
 use lib.IntN.{ℤ}
-use lib.ListN.{length}
 use Rattle.numbers.specs.Text.{same}
 use Rattle.numbers.proofs.Bools.{none-some, or-left, or-right}
 use Rattle.numbers.proofs.Prefixes.{same-equal}
@@ -14,7 +14,7 @@ use Rattle.layout.specs.Stage.{isLabel}
 use Rattle.layout.specs.Addresses.{LabelAt, placed, lessLabel, insert, ordered, addressAt, addressIn, labelAddress}
 use Rattle.layout.specs.Rounds.{Found, Known, orElse, foundValue, constant, asNumber, look, turn}
 use Rattle.layout.specs.Layouts.{EquateAt, Layout, consFound, foundEquates}
-use Rattle.layout.specs.Demands.{recordedValue, recordedAddress, finalValue, EquateHolds, InOrder}
+use Rattle.layout.specs.Demands.{recordedValue, recordedAddress, finalValue, EquateHolds, OneByOne}
 use Rattle.layout.specs.code.Fits.{Each}
 use Rattle.layout.proofs.SumLaws.{sum-more}
 use Rattle.layout.proofs.StageOrder.{Apart}
@@ -84,7 +84,8 @@ insert-address n x (y ∷ ys) g =
     behind false false p q h = h
 
     by : (l c : Bool) → same (x .name .bytes) n ≡ c → (d : Bool) → same (y .name .bytes) n ≡ d
-        → W (insert x ys) ≡ pick (same (x .name .bytes) n) A (W ys) → W (elim l [ true ↦ x ∷ y ∷ ys | false ↦ y ∷ insert x ys ]) ≡ pick c A (pick d B (W ys))
+        → W (insert x ys) ≡ pick (same (x .name .bytes) n) A (W ys)
+        → W (elim l [ true ↦ x ∷ y ∷ ys | false ↦ y ∷ insert x ys ]) ≡ pick c A (pick d B (W ys))
     by true c p d q h = ap₂ (λ (c d : Bool). pick c A (pick d B (W ys))) p q
     by false c p d q h = ap (λ (d : Bool). pick d B (W (insert x ys))) q ∙ behind c d p q (h ∙ ap (λ (c : Bool). pick c A (W ys)) p)
 
@@ -108,7 +109,8 @@ module _ (base : ℕ) (σ : State) where
 
 -- ---- each equate
 
-found-last : (done : List Known) (k : Known) (f : Found) → k .found ≡ some f → foundEquates (done ++ k ∷ []) ≡ foundEquates done ++ recordOf k f ∷ []
+found-last : (done : List Known) (k : Known) (f : Found) → k .found ≡ some f
+    → foundEquates (done ++ k ∷ []) ≡ foundEquates done ++ recordOf k f ∷ []
 unfolding foundEquates
 found-last [] k f e = rw e refl
 found-last (d ∷ done) k f e = by (d .found) (found-last done k f e)
@@ -143,22 +145,23 @@ module _ (base : ℕ) (σ : State) (R : ℕ) (F : List Known) (H : History (turn
       }
 
   in-order : (done ks : List Known) → F ≡ done ++ ks → Each IsFound ks
-      → InOrder (EquateHolds base σ l) (map (λ k. k .equate) ks) (foundEquates done) (foundEquates ks)
+      → OneByOne (EquateHolds base σ l) (map (λ k. k .equate) ks) (foundEquates done) (foundEquates ks)
   unfolding foundEquates
   in-order done [] are g = tt
   in-order done (k ∷ ks) are g = by (k .found) (g .0 .1) (in-order (done ++ k ∷ []) ks (are ∙ sym (append-assoc done (k ∷ []) ks)) (g .1))
     where
       Rest : List EquateAt → Type 0
-      Rest above = InOrder (EquateHolds base σ l) (map (λ k. k .equate) ks) above (foundEquates ks)
+      Rest above = OneByOne (EquateHolds base σ l) (map (λ k. k .equate) ks) above (foundEquates ks)
 
       by : (o : Option Found) → o ≡ some (g .0 .0) → Rest (foundEquates (done ++ k ∷ []))
-          → InOrder (EquateHolds base σ l) (k .equate ∷ map (λ k. k .equate) ks) (foundEquates done) (consFound k o (foundEquates ks))
+          → OneByOne (EquateHolds base σ l) (k .equate ∷ map (λ k. k .equate) ks) (foundEquates done) (consFound k o (foundEquates ks))
       by none p h = absurd (none-some p)
       by (some f) p h =
           let q : f ≡ g .0 .0 = cc in
           let e : k .found ≡ some f = g .0 .1 ∙ ap some (sym q) in
           (equate-holds done k ks are f e, subst Rest (found-last done k f e) h)
 
-  pub equates-hold : InOrder (EquateHolds base σ l) (map (λ k. k .equate) F) [] (l .equates)
+  pub equates-hold : OneByOne (EquateHolds base σ l) (map (λ k. k .equate) F) [] (l .equates)
   unfolding foundEquates
-  equates-hold = subst (λ (rs : List EquateAt). InOrder (EquateHolds base σ l) (map (λ k. k .equate) F) [] rs) (sym equates) (in-order [] F refl all)
+  equates-hold =
+      subst (λ (rs : List EquateAt). OneByOne (EquateHolds base σ l) (map (λ k. k .equate) F) [] rs) (sym equates) (in-order [] F refl all)

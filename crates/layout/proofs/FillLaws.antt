@@ -7,27 +7,19 @@ use mathlib.Core.Option.{Option, none, some}
 use native.Mathlib.Omega.{arith}
 use lib.ListN.{length, take, drop, length-append}
 use lib.Seq.{length-take-le, take-append-le, take-take, take-add, take-at, drop-at}
-use Rattle.numbers.specs.Results.{Result, value, refused, andThen}
+use Rattle.numbers.specs.Results.{value, andThen}
 use Rattle.numbers.specs.Text.{same}
 use Rattle.numbers.proofs.Bools.{none-some}
 use Rattle.layout.specs.Bytes.{le, put}
-use Rattle.layout.specs.Refusals.{Refusal, atLine}
+use Rattle.layout.specs.Refusals.{atLine}
 use Rattle.layout.specs.Limits.{baseLimit, dataLimit}
 use Rattle.layout.specs.State.{Label, LabelWord, State}
 use Rattle.layout.specs.Addresses.{addressAt, addressIn, fillOne, fill}
 use Rattle.layout.specs.code.Fits.{Each, LabelFits}
+use Rattle.layout.proofs.ResultLaws.{refused-value, value-same}
 use Rattle.layout.proofs.ByteLaws.{length-le, length-put}
 use Rattle.layout.proofs.Fields.{place-below}
 use Rattle.layout.proofs.StageOrder.{Spread}
-
-abbrev Filled : Type 0
-Filled = Result Refusal (List ℕ)
-
-value-same : {xs ys : List ℕ} → _≡_ {A = Filled} (value xs) (value ys) → xs ≡ ys
-value-same e = cc
-
-refused-value : {r : Refusal} {xs : List ℕ} → _≡_ {A = Filled} (refused r) (value xs) → ⊥
-refused-value e = let q : _≡_ {A = ℕ} 0 1 = cc in omega arith
 
 -- ---- stores
 

@@ -4,7 +4,7 @@ use mathlib.Core.Path.{_≡_, refl, sym, _∙_, ap, ap₂, subst}
 use mathlib.Core.Logic.{_↔_}
 use mathlib.Core.List.{List, [], _∷_, _++_, map, append-assoc}
 use mathlib.Core.Bool.{true}
-use native.Mathlib.Nat.{mod-eq-of-lt}
+use native.Mathlib.Nat.{suc-mul, mod-eq-of-lt}
 use native.Mathlib.Omega.{arith}
 use lib.Dec.{leb}
 use lib.IntN.{ℤ, pos, negsuc}
@@ -17,17 +17,18 @@ use Rattle.numbers.proofs.Bools.{and-left}
 use Rattle.layout.specs.Bytes.{le, together}
 use Rattle.layout.specs.Pieces.{Piece, piece}
 use Rattle.layout.specs.Refusals.{Refusal}
-use Rattle.layout.specs.Limits.{textLimit, labelSize, equateSize, itemSize, Lent}
+use Rattle.layout.specs.Limits.{labelSize, equateSize, itemSize, Lent}
 use Rattle.layout.specs.State.{State}
 use Rattle.layout.specs.Addresses.{LabelAt}
 use Rattle.layout.specs.Records.{Field, fieldBytes}
 use Rattle.layout.specs.Layouts.{EquateAt, ItemAt, Layout, layoutOf, countsOf, buffersOf, answerOf, callOf}
-use Rattle.layout.specs.Chains.{NamesFirst, Conditions}
+use Rattle.layout.specs.Chains.{Conditions}
 use Rattle.layout.specs.Held.{pieceIn, labelFrom, equateFrom, itemFrom, counted, heldLayout}
 use Rattle.layout.specs.Demands.{BeforeRounds, Holds, Chained, Demanded}
-use Rattle.layout.specs.code.Tables.{leValue, fourAt, eightAt, labelRecordAt, equateRecordAt, itemRecordAt}
+use Rattle.layout.specs.code.Tables.{leValue, labelRecordAt, equateRecordAt, itemRecordAt}
 use Rattle.layout.specs.code.Fits.{Each, Inside}
 use Rattle.layout.specs.code.Orders.{labelRow, LabelAtFits}
+use Rattle.layout.proofs.ResultLaws.{value-refused, refused-same}
 use Rattle.layout.proofs.ByteLaws.{le-value, le-back}
 use Rattle.layout.proofs.Fields.{EquateAtFits, ItemAtFits, equateRow, itemRow, LayoutFits, layout-fits}
 use Rattle.layout.proofs.DemandLaws.{refusal-numbered, unresolved-line, unresolved-exactly, accepted-holds}
@@ -49,17 +50,21 @@ module _ {A : Type 0} (f : A → List Field) (size : ℕ) (sized : (x : A) → l
   table-back P back (x ∷ xs) rest g =
       let later = together (map (λ x. fieldBytes (f x)) xs) in
       let b = fieldBytes (f x) ++ (later ++ rest) in
+      let behind = drop-at (fieldBytes (f x)) (later ++ rest) size (sized x) in
       ap (λ (b : List ℕ). at b 0 ∷ counted (at b) 1 (length xs)) (append-assoc (fieldBytes (f x)) later rest)
       ∙ ap₂ _∷_ (back x (later ++ rest) (g .0))
-      (counted-behind b 0 (length xs)
-      ∙ ap (λ (b : List ℕ). counted (at b) 0 (length xs)) (drop-at (fieldBytes (f x)) (later ++ rest) size (sized x)) ∙ table-back P back xs rest (g .1))
+      (counted-behind b 0 (length xs) ∙ ap (λ (b : List ℕ). counted (at b) 0 (length xs)) behind ∙ table-back P back xs rest (g .1))
 
 -- a field of the next record is one of what stands behind the first
-four-behind : (b : List ℕ) (size at at′ : ℕ) → at′ ≡ size + at → fourAt b at′ ≡ fourAt (drop size b) at
-four-behind b size at at′ e = ap (λ (n : ℕ). leValue (take 4 (drop n b))) e ∙ ap (λ (xs : List ℕ). leValue (take 4 xs)) (sym (drop-drop at size b))
+behind-at : (w size at at′ : ℕ) (b : List ℕ) → at′ ≡ size + at → leValue (take w (drop at′ b)) ≡ leValue (take w (drop at (drop size b)))
+behind-at w size at at′ b e =
+    ap (λ (n : ℕ). leValue (take w (drop n b))) e ∙ ap (λ (xs : List ℕ). leValue (take w xs)) (sym (drop-drop at size b))
 
-eight-behind : (b : List ℕ) (size at at′ : ℕ) → at′ ≡ size + at → eightAt b at′ ≡ eightAt (drop size b) at
-eight-behind b size at at′ e = ap (λ (n : ℕ). leValue (take 8 (drop n b))) e ∙ ap (λ (xs : List ℕ). leValue (take 8 xs)) (sym (drop-drop at size b))
+first-behind : (w size k : ℕ) (b : List ℕ) → leValue (take w (drop (suc k * size) b)) ≡ leValue (take w (drop (k * size) (drop size b)))
+first-behind w size k b = behind-at w size (k * size) (suc k * size) b (rw (suc-mul k size) (omega arith))
+
+field-behind : (w size k at : ℕ) (b : List ℕ) → leValue (take w (drop (suc k * size + at) b)) ≡ leValue (take w (drop (k * size + at) (drop size b)))
+field-behind w size k at b = behind-at w size (k * size + at) (suc k * size + at) b (rw (suc-mul k size) (omega arith))
 
 -- ---- numbers and pieces
 
@@ -95,10 +100,8 @@ module _ (t : List ℕ) where
 
   label-behind : (b : List ℕ) (k : ℕ) → labelHeld b (suc k) ≡ labelHeld (drop labelSize b) k
   label-behind b k =
-      let at : ℕ → ℕ = λ n. n in
-      label-as
-      (ap₂ (pieceIn t) (four-behind b 16 (k * 16) (suc k * 16) (omega arith)) (four-behind b 16 (k * 16 + 4) (suc k * 16 + 4) (omega arith)))
-      (four-behind b 16 (k * 16 + 8) (suc k * 16 + 8) (omega arith)) (four-behind b 16 (k * 16 + 12) (suc k * 16 + 12) (omega arith))
+      let four = field-behind 4 labelSize k in
+      label-as (ap₂ (pieceIn t) (first-behind 4 labelSize k b) (four 4 b)) (four 8 b) (four 12 b)
 
   abbrev equateHeld : List ℕ → ℕ → EquateAt
   equateHeld b k = equateFrom t (equateRecordAt b k)
@@ -111,17 +114,15 @@ module _ (t : List ℕ) where
 
   equate-behind : (b : List ℕ) (k : ℕ) → equateHeld b (suc k) ≡ equateHeld (drop equateSize b) k
   equate-behind b k =
-      equate-as
-      (ap₂ (pieceIn t) (four-behind b 24 (k * 24) (suc k * 24) (omega arith)) (four-behind b 24 (k * 24 + 4) (suc k * 24 + 4) (omega arith)))
-      (four-behind b 24 (k * 24 + 8) (suc k * 24 + 8) (omega arith))
-      (ap (signedOf 64) (eight-behind b 24 (k * 24 + 12) (suc k * 24 + 12) (omega arith)))
-      (four-behind b 24 (k * 24 + 20) (suc k * 24 + 20) (omega arith))
+      let four = field-behind 4 equateSize k in
+      equate-as (ap₂ (pieceIn t) (first-behind 4 equateSize k b) (four 4 b)) (four 8 b) (ap (signedOf 64) (field-behind 8 equateSize k 12 b)) (four 20 b)
 
   abbrev itemHeld : List ℕ → ℕ → ItemAt
   itemHeld b k = itemFrom t (itemRecordAt b k)
 
   item-as : {p q : Piece} {a b m n c d e f : ℕ} → a ≡ b → m ≡ n → c ≡ d → e ≡ f → p ≡ q
-      → _≡_ {A = ItemAt} (record { address = a; line = m; kind = c; first = e; source = p }) (record { address = b; line = n; kind = d; first = f; source = q })
+      → _≡_ {A = ItemAt} (record { address = a; line = m; kind = c; first = e; source = p })
+      (record { address = b; line = n; kind = d; first = f; source = q })
   item-as {p} {q} {a} {b} {m} {n} {c} {d} {e} {f} u v w x y =
       ap₂ (λ (a m : ℕ). record { address = a; line = m; kind = c; first = e; source = p }) u v
       ∙ ap₂ (λ (c e : ℕ). record { address = b; line = n; kind = c; first = e; source = p }) w x
@@ -129,10 +130,8 @@ module _ (t : List ℕ) where
 
   item-behind : (b : List ℕ) (k : ℕ) → itemHeld b (suc k) ≡ itemHeld (drop itemSize b) k
   item-behind b k =
-      item-as
-      (four-behind b 24 (k * 24) (suc k * 24) (omega arith)) (four-behind b 24 (k * 24 + 4) (suc k * 24 + 4) (omega arith))
-      (four-behind b 24 (k * 24 + 8) (suc k * 24 + 8) (omega arith)) (four-behind b 24 (k * 24 + 12) (suc k * 24 + 12) (omega arith))
-      (ap₂ (pieceIn t) (four-behind b 24 (k * 24 + 16) (suc k * 24 + 16) (omega arith)) (four-behind b 24 (k * 24 + 20) (suc k * 24 + 20) (omega arith)))
+      let four = field-behind 4 itemSize k in
+      item-as (first-behind 4 itemSize k b) (four 4 b) (four 8 b) (four 12 b) (ap₂ (pieceIn t) (four 16 b) (four 20 b))
 
   module _ (short : length t < 2 ^ 32) where
     -- a piece's start and length fit four bytes
@@ -204,12 +203,6 @@ demanded t base k = by (layoutOf t base k) refl
     exactly n σ bytes b c to from =
         let x = unresolved-exactly t base k σ bytes b c in
         ((λ e. x .0 (to e)), (λ u. from (x .1 u)))
-
-    value-refused : {l : Layout} {r : Refusal} → _≡_ {A = Result Refusal Layout} (value l) (refused r) → ⊥
-    value-refused e = let q : _≡_ {A = ℕ} 0 1 = cc in omega arith
-
-    refused-same : {r s : Refusal} → _≡_ {A = Result Refusal Layout} (refused r) (refused s) → r ≡ s
-    refused-same e = cc
 
     by : (o : Result Refusal Layout) → layoutOf t base k ≡ o → Demanded t base k (answerOf k o)
     by (value l) e =

@@ -35,18 +35,12 @@ use Rattle.layout.specs.Expansions.{onRegister, onLabel, liConstant, onN
 use Rattle.layout.specs.State.{ItemLine}
 use Rattle.layout.specs.Rounds.{asNumber}
 use Rattle.layout.specs.Layouts.{ItemAt, Layout, encoded, emission, Emitted, itemAt, emit}
-use Rattle.layout.specs.Demands.{recordedValue, recordedAddress, endsAt, itemWords, liSays, modulo32, Loads, ItemHolds, InOrder}
+use Rattle.layout.specs.Demands.{recordedValue, recordedAddress, endsAt, itemWords, liSays, modulo32, Loads, ItemHolds, OneByOne}
+use Rattle.layout.proofs.ResultLaws.{refused-value, value-same}
 use Rattle.layout.proofs.Gives.{Gives, comes-so}
 
--- a refusal gives no words
 abbrev Words : Type 0
 Words = Result ℕ (List ℕ)
-
-refused-value : {n : ℕ} {vs : List ℕ} → _≡_ {A = Words} (refused n) (value vs) → ⊥
-refused-value e = let q : _≡_ {A = ℕ} 0 1 = cc in omega arith
-
-value-same : (vs ws : List ℕ) → _≡_ {A = Words} (value vs) (value ws) → vs ≡ ws
-value-same vs ws e = cc
 
 -- ---- numbers modulo 2^32
 
@@ -79,7 +73,7 @@ encoded-words (i ∷ is) (w ∷ ws) e =
 
 -- words that the encoder gives leave what was proved of them
 leaves-as : (vs ws : List ℕ) (r v v′ : ℕ) → _≡_ {A = Words} (value ws) (value vs) → v ≡ v′ → Leaves ws r v → Leaves vs r v′
-leaves-as vs ws r v v′ p q h = subst (λ (us : List ℕ). Leaves us r v′) (value-same ws vs p) (subst (λ (u : ℕ). Leaves ws r u) q h)
+leaves-as vs ws r v v′ p q h = subst (λ (us : List ℕ). Leaves us r v′) (value-same p) (subst (λ (u : ℕ). Leaves ws r u) q h)
 
 -- a number's load leaves it
 load-leaves : (rd : Register) (z : ℤ) (vs : List ℕ) → isSigned32 z ≡ true → rd .0 < 32 → andThen (liLoad rd z) encoded ≡ value vs → 0 < rd .0
@@ -90,11 +84,12 @@ load-leaves rd z vs s below e nonzero = by (isSigned12 z) refl e
     by : (c : Bool) → isSigned12 z ≡ c → encoded (cond c (Addi rd x0 z ∷ []) (loadPair rd (bits 32 z))) ≡ value vs → Leaves vs (rd .0) (modulo32 z)
     by true q e =
         let r = single-leaves rd z nonzero below q in
-        let w : encoded (Addi rd x0 z ∷ []) ≡ value (r .0 ∷ []) = encoded-words (Addi rd x0 z ∷ []) (r .0 ∷ []) (ap (λ (a : Result ℕ ℕ). a ∷ []) (r .1)) in
+        let w = encoded-words (Addi rd x0 z ∷ []) (r .0 ∷ []) (ap (λ (a : Result ℕ ℕ). a ∷ []) (r .1)) in
         leaves-as vs (r .0 ∷ []) (rd .0) (bits 32 z) (modulo32 z) (sym w ∙ e) (signed-bits z s) (r .2)
     by false q e =
         let r = pair-leaves rd (bits 32 z) nonzero below in
-        leaves-as vs (r .0) (rd .0) (bits 32 z % 2 ^ 32) (modulo32 z) (sym (encoded-words (loadPair rd (bits 32 z)) (r .0) (r .1)) ∙ e) (signed-mod z s) (r .2)
+        let w = encoded-words (loadPair rd (bits 32 z)) (r .0) (r .1) in
+        leaves-as vs (r .0) (rd .0) (bits 32 z % 2 ^ 32) (modulo32 z) (sym w ∙ e) (signed-mod z s) (r .2)
 
 module _ (const : List ℕ → Option ℤ) (label : List ℕ → Option ℕ) where
   -- the operands' register and what is loaded there
@@ -147,7 +142,8 @@ module _ (const : List ℕ → Option ℤ) (label : List ℕ → Option ℕ) whe
       name n r q false none w e = absurd (refused-value e)
       name n r q false (some z) w e = small (isSigned32 z) refl e
         where
-          small : (c : Bool) → isSigned32 z ≡ c → andThen (cond c (liLoad (reg n) z) (refused 19)) encoded ≡ value vs → LoadsAs (a ∷ b ∷ []) vs saysLi
+          small : (c : Bool) → isSigned32 z ≡ c → andThen (cond c (liLoad (reg n) z) (refused 19)) encoded ≡ value vs
+              → LoadsAs (a ∷ b ∷ []) vs saysLi
           small true s e = made n r z (says none q ∙ w) (load-leaves (reg n) z vs s (register-below a n r) e)
           small false s e = absurd (refused-value e)
 
@@ -228,7 +224,8 @@ module _ (const : List ℕ → Option ℤ) (label : List ℕ → Option ℕ) whe
       where
         by : (v : Words) → emission const label (x .item) (x .source .bytes) ≡ v
             → ((ws : List ℕ) (is : List ItemAt) → Gives (EmittedAs xs ws is) (emit base const label xs ws is))
-            → Gives (EmittedAs (x ∷ xs) ws is) (andThen (atLine (x .line) v) (λ vs. emit base const label xs (ws ++ vs) (is ++ itemAt base x (length ws) ∷ [])))
+            → Gives (EmittedAs (x ∷ xs) ws is)
+            (andThen (atLine (x .line) v) (λ vs. emit base const label xs (ws ++ vs) (is ++ itemAt base x (length ws) ∷ [])))
         by (refused n) q more = tt
         by (value vs) q more =
             let is′ = is ++ itemAt base x (length ws) ∷ [] in
@@ -246,7 +243,8 @@ module _ (const : List ℕ → Option ℤ) (label : List ℕ → Option ℕ) whe
 
     module _ (l : Layout) (equates : (b : List ℕ) → recordedValue (l .equates) b ≡ const b)
         (labels : (b : List ℕ) → recordedAddress (l .labels) b ≡ label b) where
-      ends : {xs : List ItemLine} {n : ℕ} {ws : List ℕ} {is : List ItemAt} → Emission xs n ws is → length (l .words) ≡ n + length ws → endsAt l is ≡ n
+      ends : {xs : List ItemLine} {n : ℕ} {ws : List ℕ} {is : List ItemAt} → Emission xs n ws is → length (l .words) ≡ n + length ws
+          → endsAt l is ≡ n
       ends {n = n} no-item e = e ∙ omega arith
       ends (an-item vs q r) e = refl
 
@@ -289,7 +287,7 @@ module _ (const : List ℕ → Option ℤ) (label : List ℕ → Option ℕ) whe
           }
 
       in-order : {xs : List ItemLine} {n : ℕ} {ws : List ℕ} {is : List ItemAt} (pre : List ℕ) (above : List ItemAt) → length pre ≡ n
-          → l .words ≡ pre ++ ws → Emission xs n ws is → InOrder (ItemHolds base l) xs above is
+          → l .words ≡ pre ++ ws → Emission xs n ws is → OneByOne (ItemHolds base l) xs above is
       in-order pre above p w no-item = tt
       in-order {n = n} pre above p w (an-item {x = x} {ws = ws} {is = is} vs q r) = (
         item-holds x above n vs is q (middle pre vs ws n (endsAt l is) p (ends r all) w),
@@ -300,6 +298,7 @@ module _ (const : List ℕ → Option ℤ) (label : List ℕ → Option ℕ) whe
           all = ap length w ∙ length-append pre (vs ++ ws) ∙ omega (arith, length-append vs ws)
 
       pub items-hold : (xs : List ItemLine) (x : Emitted) → l .words ≡ x .words → l .items ≡ x .items → EmittedAs xs [] [] x
-          → InOrder (ItemHolds base l) xs [] (l .items)
+          → OneByOne (ItemHolds base l) xs [] (l .items)
       items-hold xs x p q r =
-          subst (λ (is : List ItemAt). InOrder (ItemHolds base l) xs [] is) (sym (q ∙ r .allItems)) (in-order [] [] refl (p ∙ r .allWords) (r .emits))
+          subst (λ (is : List ItemAt). OneByOne (ItemHolds base l) xs [] is) (sym (q ∙ r .allItems))
+          (in-order [] [] refl (p ∙ r .allWords) (r .emits))

@@ -41,6 +41,7 @@ pub mod TurnTables
 pub mod Computing
 pub mod TwelveCases
 pub mod RecordCases
+pub mod ResultLaws
 pub mod SumLaws
 pub mod RoundHistory
 pub mod RoundLaws
@@ -53,3 +54,6 @@ pub mod ItemsHold
 pub mod FillLaws
 pub mod DemandLaws
 pub mod HeldLaws
+pub mod DemandCases
+pub mod DemandPremises
+pub mod DemandRefuted

@@ -1,5 +1,5 @@
 -- The layout's own rounds: what an equate's turn says, that the rounds leave a history, and that a value is the signed sum at the end.
-use Prim.Native.Nat.{ℕ, zero, suc, _+_, _≤_, _<_}
+use Prim.Native.Nat.{ℕ, zero, suc, _+_, _<_}
 use mathlib.Core.Path.{_≡_, refl, sym, _∙_, ap}
 use mathlib.Core.Logic.{_⊎_, inl, inr}
 use mathlib.Core.List.{List, [], _∷_, _++_, map, append-nil, append-assoc}
@@ -22,15 +22,16 @@ use Rattle.layout.specs.Addresses.{addressAt, addressIn, labelAddress}
 use Rattle.layout.specs.Rounds.{Found, Known, pendingEquate, orElse, constant, asNumber, look, isSome, turn, Turns, turns, afterTurn, passOne}
 use Rattle.layout.specs.Rounds.{pass, pendingCount, unresolved, rounds}
 use Rattle.layout.specs.Layouts.{resolve}
-use Rattle.layout.specs.Terms.{Term, termsOf, signedSum, isUsed}
+use Rattle.layout.specs.Terms.{Term, termsOf, signedSum}
 use Rattle.layout.specs.Chains.{Among, first, later, nameOf}
+use Rattle.layout.proofs.ResultLaws.{value-refused, refused-same}
 use Rattle.layout.proofs.Gives.{Comes, comes-so, and-then-comes}
 use Rattle.layout.proofs.Ending.{pending-all, equates-all}
-use Rattle.layout.proofs.SumLaws.{SaidOf, Summed, Waits, Refuses, evaluated-says, summed-whole, sum-more, value-refused}
+use Rattle.layout.proofs.SumLaws.{SaidOf, Summed, Waits, evaluated-says, summed-whole, sum-more}
 use Rattle.layout.proofs.StageOrder.{isEarly, Early}
-use Rattle.layout.proofs.RoundHistory.{At, shown, given, spent, start-spent, Steps, no-more, kept, gained, waiting, steps-equates, steps-fewer}
-use Rattle.layout.proofs.RoundHistory.{steps-spent, steps-still, History, history-low, history-start, history-next, AllFound, Stuck}
-use Rattle.layout.proofs.RoundLaws.{none-all, some-one, Before, seen-some, Free, Has, Lacks, Evaluator, told, found-free, same-one}
+use Rattle.layout.proofs.RoundHistory.{At, shown, given, spent, start-spent, Steps, no-more, kept, gained, waiting, steps-equates}
+use Rattle.layout.proofs.RoundHistory.{steps-fewer, steps-spent, steps-still, History, history-low, history-start, history-next, AllFound, Stuck}
+use Rattle.layout.proofs.RoundLaws.{none-all, some-one, seen-some, Free, Has, Evaluator, told, found-free, same-one}
 
 -- ---- labels by address
 
@@ -116,6 +117,10 @@ module _ (base : ℕ) (σ : State) where
   abbrev Said : List Known → Equate → Evaluated → Type 0
   Said S e v = SaidOf (look base σ S) (placeOf e) (pos 0) (term positive positive) (tokens (exprText (e .expr))) v
 
+  -- of a value
+  abbrev pub Sums : List Known → Equate → ℤ → Type 0
+  Sums S e z = Summed (look base σ S) (placeOf e) (pos 0) (term positive positive) (tokens (exprText (e .expr))) z
+
   pub turn-said : (S : List Known) (e : Equate) (v : Evaluated) → Tried S e v → Said S e v
   turn-said S e v t = rw (t .evaluated) at (evaluated-says (look base σ S) (placeOf e) (exprText (e .expr)))
 
@@ -123,12 +128,9 @@ module _ (base : ℕ) (σ : State) where
   pub turn-early : (S : List Known) (e : Equate) (m : ℕ) → turn base σ S e ≡ refused m → Early m
   turn-early S e m q = by (turn-says S e (refused m) q)
     where
-      same-number : (n : ℕ) → _≡_ {A = Evaluated} (refused m) (refused n) → m ≡ n
-      same-number n e = cc
-
       by : TurnSays S e (refused m) → Early m
-      by (named-label p l) = ap isEarly (same-number 14 p)
-      by (named-again p l) = ap isEarly (same-number 15 p)
+      by (named-label p l) = ap isEarly (refused-same p)
+      by (named-again p l) = ap isEarly (refused-same p)
       by (tries t) = last (turn-said S e (refused m) t)
         where
           last : Said S e (refused m) → Early m
@@ -168,7 +170,7 @@ module _ (base : ℕ) (σ : State) where
       record {
         value-free = λ S e z q. tried S e (some z) q .free;
         value-has = λ S e z q n u.
-            let s : Summed (look base σ S) (placeOf e) (pos 0) (term positive positive) (tokens (exprText (e .expr))) z =
+            let s : Sums S e z =
             turn-said S e (value (some z)) (tried S e (some z) q) in
             let v = s .known n u in
             looked-has S n (v .0) (v .1);
@@ -255,7 +257,8 @@ module _ (base : ℕ) (σ : State) where
       → map (λ k. k .equate) ks ≡ es → n ≡ spent R ks → RoundsCome es (rounds base σ fuel (suc R) ks n)
   unfolding rounds
   rounds-come es zero R ks n h H m s = absurd (omega arith)
-  rounds-come es (suc fuel) R ks n h H m s = by (eqb (pendingCount ks) 0) refl (pass base σ (suc R) [] ks n) (pass-is (suc R) [] ks n) (rounds-come es fuel (suc R))
+  rounds-come es (suc fuel) R ks n h H m s =
+      by (eqb (pendingCount ks) 0) refl (pass base σ (suc R) [] ks n) (pass-is (suc R) [] ks n) (rounds-come es fuel (suc R))
     where
       More : Type 0
       More = (ls : List Known) (m : ℕ) → pendingCount ls < fuel → History (turn base σ) (suc R) ls → map (λ k. k .equate) ls ≡ es
@@ -293,7 +296,8 @@ module _ (base : ℕ) (σ : State) where
       by true e x g more = record { last = R; history = H; found = eqb-true (pendingCount ks) 0 e; equates = m; evaluated = s }
       by false e (refused r) g more = by-turn (rw m at g)
       by false e (value x) g more =
-          next x (eqb (pendingCount (x .known)) (pendingCount ks)) refl (eqb-false (pendingCount ks) 0 e) (rw (← g .are) at (g .steps)) (g .evaluated) more
+          next x (eqb (pendingCount (x .known)) (pendingCount ks)) refl (eqb-false (pendingCount ks) 0 e) (rw (← g .are) at (g .steps))
+          (g .evaluated) more
 
   pub resolve-comes : (es : List Equate) → RoundsCome es (resolve base σ es)
   resolve-comes es =
@@ -327,7 +331,7 @@ module _ (base : ℕ) (σ : State) where
     sum-final {i} {k} f a e =
         let S = shown (f .round) i 0 F in
         let q = told σ (turn base σ) own-evaluator R F H f a e .gave in
-        let s : Summed (look base σ (shown (f .round) i 0 F)) (placeOf (k .equate)) (pos 0) (term positive positive) (tokens (exprText (k .equate .expr))) (f .value) =
+        let s : Sums S (k .equate) (f .value) =
         turn-said S (k .equate) (value (some (f .value))) (tried S (k .equate) (some (f .value)) q) in (
           s .terms,
           s .are,

@@ -1,6 +1,6 @@
--- The rounds over any evaluator: what each equate's turns saw, told of the equates as they are at the end. An equate waited in every round before
--- its own, and its value is what its turn gave, against the equates at the end with every later value blanked.
-use Prim.Native.Nat.{ℕ, zero, suc, _+_, _≤_, _<_}
+-- The rounds over any evaluator: what each equate's turns saw, told of the equates as they are at the end. An equate waited in every
+-- round before its own, and its value is what its turn gave, against the equates at the end with every later value blanked.
+use Prim.Native.Nat.{ℕ, suc, _+_, _≤_, _<_}
 use mathlib.Core.Path.{_≡_, refl, sym, _∙_, ap, ap₂}
 use mathlib.Core.Logic.{_⊎_, inl, inr}
 use mathlib.Core.List.{List, [], _∷_, _++_, map, append-assoc}
@@ -196,9 +196,8 @@ module _ (turn : List Known → Equate → Evaluated) where
   stable q i j h no-more = refl
   stable q i j h (kept {k = k} f e s) = ap (λ r. shownOne q i j k (k .found) ∷ r) (stable q i (suc j) h s)
   stable {R} q i j h (gained {k = k} z e t s) =
-      ap₂ _∷_
-      (one-not q i j (given k z (suc R)) (record { value = z; round = suc R }) (omega arith) (λ p. absurd (omega arith)) ∙ sym (one-pending q i j k e))
-      (stable q i (suc j) h s)
+      let blank = one-not q i j (given k z (suc R)) (record { value = z; round = suc R }) (omega arith) (λ p. absurd (omega arith)) in
+      ap₂ _∷_ (blank ∙ sym (one-pending q i j k e)) (stable q i (suc j) h s)
   stable q i j h (waiting {k = k} e t s) = ap₂ _∷_ (sym (one-pending q i j k e)) (stable q i (suc j) h s)
 
   -- places from i on are seen as they were before the round

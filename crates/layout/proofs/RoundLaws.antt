@@ -1,5 +1,5 @@
--- What a history of the rounds tells, over any evaluator of which it is known what a value and what a wait say of the names that are used: one found
--- equate to a name, what each used was found before it, and the round that this makes.
+-- What a history of the rounds tells, over any evaluator of which it is known what a value and what a wait say of the names that are
+-- used: one found equate to a name, what each used was found before it, and the round that this makes.
 use Prim.Native.Nat.{ℕ, zero, suc, _+_, _≤_, _<_, max}
 use mathlib.Core.Path.{_≡_, refl, sym, _∙_, ap, subst}
 use mathlib.Core.Logic.{_⊎_, inl, inr}
@@ -77,7 +77,8 @@ some-one (k ∷ ks) n z e = by (same (knownName k) n) refl (k .found) refl e (so
 
 -- ---- what a turn sees, place by place
 
-at-shown : {t : ℕ} {h : Known} (q i j : ℕ) (ks : List Known) → At (shown q i j ks) t h → (k : Known) × At ks t k × (h ≡ shownOne q i (j + t) k (k .found))
+at-shown : {t : ℕ} {h : Known} (q i j : ℕ) (ks : List Known) → At (shown q i j ks) t h
+    → (k : Known) × At ks t k × (h ≡ shownOne q i (j + t) k (k .found))
 unfolding shown
 at-shown q i j (k ∷ ks) here = (k, here, ap (λ n. shownOne q i n k (k .found)) (omega arith))
 at-shown {t = suc t} q i j (k ∷ ks) (there a) =

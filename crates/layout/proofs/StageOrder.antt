@@ -1,16 +1,16 @@
--- What the line stage leaves besides what Kept.antt says: labels of different names, label words side by side, equates at rising lines; and no refusal
--- of it is 0 or 17.
-use Prim.Native.Nat.{ℕ, suc, _+_, _-_, _*_, _≤_, _<_}
+-- What the line stage leaves besides what Kept.antt says: labels of different names, label words side by side, equates at rising lines;
+-- and no refusal of it is 0 or 17.
+use Prim.Native.Nat.{ℕ, suc, _+_, _≤_}
 use mathlib.Core.Path.{_≡_, refl, sym, _∙_, ap}
 use mathlib.Core.List.{List, [], _∷_, _++_, map}
-use mathlib.Core.Bool.{Bool, true, false, cond, not, _||_, _&&_, true≢false}
+use mathlib.Core.Bool.{Bool, true, false, not, _||_, _&&_, true≢false}
 use mathlib.Core.Option.{Option, none, some}
 use native.Mathlib.Omega.{arith}
 use lib.Dec.{ltb, leb, eqb}
 use lib.IntN.{ℤ, pos, negsuc}
-use lib.ListN.{length, take, drop, length-append}
+use lib.ListN.{length}
 use Rattle.numbers.specs.Results.{Result, value, refused, andThen, mapped}
-use Rattle.numbers.specs.Text.{text, byte, isSpace, trimmed, startsWith, same}
+use Rattle.numbers.specs.Text.{text, byte, trimmed, startsWith, same}
 use Rattle.numbers.specs.Numbers.{immOf}
 use Rattle.numbers.specs.Operands.{operands}
 use Rattle.numbers.specs.Literals.{stringOf}
@@ -30,15 +30,15 @@ use Rattle.layout.specs.declared.directives.Store.the-variants.{Numbers,
 use Rattle.layout.specs.declared.directives.Directive.{Directive}
 use Rattle.layout.specs.declared.directives.Directive.the-variants as directive
 use Rattle.layout.specs.declared.directives.Reservation.{Reservation}
-use Rattle.layout.specs.Bytes.{isOneOf, countBefore}
+use Rattle.layout.specs.Bytes.{isOneOf}
 use Rattle.layout.specs.Refusals.{Refusal, atLine}
-use Rattle.layout.specs.Limits.{bssLimit, labelWordLimit, Lent, roomOf}
-use Rattle.layout.specs.Pieces.{Piece, piece, trimPiece, fromByte, holds, pieceBefore, pieceAfter, isEmpty, statementOf, lines, linePieces}
+use Rattle.layout.specs.Limits.{bssLimit, labelWordLimit}
+use Rattle.layout.specs.Pieces.{Piece, trimPiece, holds, isEmpty, statementOf, lines, linePieces}
 use Rattle.layout.specs.Directives.{Row, directives, rowIn, placeAfter, reservation, Write, bytes, gap, addressOf, isLabelName, rangeAt}
 use Rattle.layout.specs.Directives.{readAt, unread, numberOrName, operandWrite, stringWrite, storeWrites}
-use Rattle.layout.specs.Statements.{Expr, asWritten, withOneSpace, OwnStatement, item, stores, reserves, reservesBss}
-use Rattle.layout.specs.Statements.{Statement, nothing, enters, equate, own, sectionNamed, withoutDot, sectionOf, isSectionLine, sectionName}
-use Rattle.layout.specs.Statements.{sectionLine, symbolAfter, equateOf, equOf, isAssignment, otherIn, assignmentOf, reservesIn, storesIn}
+use Rattle.layout.specs.Statements.{Expr, OwnStatement, item, stores, reserves, reservesBss}
+use Rattle.layout.specs.Statements.{Statement, nothing, enters, equate, own, sectionNamed, withoutDot, sectionOf, isSectionLine}
+use Rattle.layout.specs.Statements.{sectionLine, symbolAfter, equateOf, equOf, isAssignment, otherIn, assignmentOf}
 use Rattle.layout.specs.Statements.{directiveIn, onRow, unlabelledOf, Line, labelled, parsed, lineOf}
 use Rattle.layout.specs.Pseudos.{Item, ordinary, pseudo, other, itemOf, reservedWords}
 use Rattle.layout.specs.State.{Label, Equate, LabelWord, Items, Stored, Own, Rest, State, start, here}
@@ -47,7 +47,7 @@ use Rattle.layout.specs.Stage.{addLabelWord, dataWrite, dataLine, growBs
 use Rattle.layout.specs.Stage.{withRest, ownLine, says, stepParsed, stepLine, lineStage}
 use Rattle.layout.specs.code.Fits.{Each}
 use Rattle.layout.proofs.Each.{cond-has}
-use Rattle.layout.proofs.Gives.{Comes, comes-so, and-then-comes, mapped-comes}
+use Rattle.layout.proofs.Gives.{Comes, and-then-comes, mapped-comes}
 use Rattle.layout.proofs.Kept.{Grown, grow-data-fits}
 
 -- ---- numbers of refusals
@@ -58,6 +58,9 @@ isEarly n = ltb 0 n && not (eqb n 17)
 
 abbrev pub Early : ℕ → Type 0
 Early n = isEarly n ≡ true
+
+abbrev pub EarlyAt : Refusal → Type 0
+EarlyAt r = Early (r .number)
 
 -- P of the value, and a refusal of such a number
 abbrev pub ComesEarly : {A : Type 0} → (A → Type 0) → Result ℕ A → Type 0
@@ -183,7 +186,8 @@ same-swap a b e = by (same b a) refl
     by true q = absurd (true≢false (sym (same-refl a) ∙ ap (same a) (sym (same-equal b a q)) ∙ e))
     by false q = q
 
-not-recorded : (n : List ℕ) (x : Label) (ls : List Label) → isLabel n ls ≡ false → same (x .name .bytes) n ≡ false → isLabel n (recorded x ls) ≡ false
+not-recorded : (n : List ℕ) (x : Label) (ls : List Label) → isLabel n ls ≡ false → same (x .name .bytes) n ≡ false
+    → isLabel n (recorded x ls) ≡ false
 unfolding isLabel recorded
 not-recorded n x [] e q = rw q refl
 not-recorded n x (l ∷ ls) e q =
@@ -198,7 +202,8 @@ unfolding recorded isLabel
 recorded-apart x [] g = (refl, tt)
 recorded-apart x (l ∷ ls) g = by (same (l .name .bytes) (x .name .bytes)) refl (recorded-apart x ls (g .1))
   where
-    by : (c : Bool) → same (l .name .bytes) (x .name .bytes) ≡ c → Apart (recorded x ls) → Apart (elim c [ true ↦ x ∷ ls | false ↦ l ∷ recorded x ls ])
+    by : (c : Bool) → same (l .name .bytes) (x .name .bytes) ≡ c → Apart (recorded x ls)
+        → Apart (elim c [ true ↦ x ∷ ls | false ↦ l ∷ recorded x ls ])
     by true e h = (ap (λ (n : List ℕ). isLabel n ls) (sym (same-equal (l .name .bytes) (x .name .bytes) e)) ∙ g .0, g .1)
     by false e h = (not-recorded (l .name .bytes) x ls (g .0) (same-swap (l .name .bytes) (x .name .bytes) e), h)
 
@@ -207,7 +212,8 @@ unfolding labelStep addLabel
 label-apart k place line none ls g = g
 label-apart k place line (some name) ls g =
     let x : Label = record { name = name; place = place; line = line } in
-    test-has (ComesEarly Apart) (isLabel (name .bytes) ls || ltb (length ls) (k .labels)) (value (recorded x ls)) (refused 45) (recorded-apart x ls g) refl
+    test-has (ComesEarly Apart) (isLabel (name .bytes) ls || ltb (length ls) (k .labels)) (value (recorded x ls)) (refused 45)
+    (recorded-apart x ls g) refl
 
 -- ---- label words
 
@@ -362,19 +368,19 @@ module _ (k : Room) (line : ℕ) where
       (and-then-comes (λ _. Unit) (RestLaid (suc line)) Early (l .says) (λ s. says k line s (σ .rest)) (line-sound (σ .rest .own .section) p)
       (λ s u. says-laid s (σ .rest) (g .rest))))
 
-at-line-early : {A : Type 0} (P : A → Type 0) (line : ℕ) (x : Result ℕ A) → ComesEarly P x → Comes P (λ (r : Refusal). Early (r .number)) (atLine line x)
+at-line-early : {A : Type 0} (P : A → Type 0) (line : ℕ) (x : Result ℕ A) → ComesEarly P x → Comes P EarlyAt (atLine line x)
 at-line-early P line (value a) h = h
 at-line-early P line (refused n) h = h
 
 abbrev pub StageLaid : ℕ → Result Refusal State → Type 0
-StageLaid m x = Comes (Laid m) (λ (r : Refusal). Early (r .number)) x
+StageLaid m x = Comes (Laid m) EarlyAt x
 
 lines-laid : (k : Room) (line : ℕ) (ps : List Piece) (σ : State) → Laid line σ → StageLaid (line + length ps) (lineStage k line ps σ)
 unfolding lineStage
 lines-laid k line [] σ g = let e : line + 0 ≡ line = omega arith in rw e g
 lines-laid k line (p ∷ ps) σ g =
     let e : line + suc (length ps) ≡ suc line + length ps = omega arith in
-    rw e (and-then-comes (Laid (suc line)) (Laid (suc line + length ps)) (λ r. Early (r .number)) (atLine line (stepLine k line p σ)) (lineStage k (suc line) ps)
+    rw e (and-then-comes (Laid (suc line)) (Laid (suc line + length ps)) EarlyAt (atLine line (stepLine k line p σ)) (lineStage k (suc line) ps)
     (at-line-early (Laid (suc line)) line (stepLine k line p σ) (step-laid k line p σ g)) (lines-laid k (suc line) ps))
 
 pub stage-laid : (t : List ℕ) (k : Room) → StageLaid (0 + length (linePieces 0 (lines t))) (lineStage k 0 (linePieces 0 (lines t)) start)

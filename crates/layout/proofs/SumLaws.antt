@@ -5,7 +5,6 @@ use mathlib.Core.Logic.{_⊎_, inl, inr}
 use mathlib.Core.List.{List, [], _∷_}
 use mathlib.Core.Bool.{Bool, true, false, cond, not, _||_, _&&_, false≢true}
 use mathlib.Core.Option.{Option, none, some}
-use native.Mathlib.Omega.{arith}
 use lib.IntN.{ℤ, pos, _+ℤ_, +ℤ-assoc, +ℤ-idr, +ℤ-idl}
 use Rattle.numbers.specs.Results.{value, refused}
 use Rattle.numbers.specs.Text.{same}
@@ -17,17 +16,7 @@ use Rattle.layout.specs.Expressions.{Token, plus, minus, dot, number, na
 use Rattle.layout.specs.Expressions.{Wanted, term, joint, onFit, addTerm, onName, sumFrom, evaluate}
 use Rattle.layout.specs.Terms.{Atom, ownAddress, literal, named, Term, consTerm, termsFrom, atomValue, plusTerm, signedSum, namesIn}
 use Rattle.layout.specs.Chains.{ifKnown, isWithin}
-
--- ---- answers that are never equal
-
-pub value-refused : {o : Option ℤ} {m : ℕ} → _≡_ {A = Evaluated} (value o) (refused m) → ⊥
-value-refused e = let q : _≡_ {A = ℕ} 0 1 = cc in omega arith
-
-pub found-waits : {z : ℤ} → _≡_ {A = Evaluated} (value (some z)) (value none) → ⊥
-found-waits e = let q : _≡_ {A = ℕ} 0 1 = cc in omega arith
-
-pub some-same : {A : Type 0} {x y : A} → some x ≡ some y → x ≡ y
-some-same e = cc
+use Rattle.layout.proofs.ResultLaws.{value-refused, some-same}
 
 -- ---- one term
 
@@ -158,7 +147,8 @@ module _ (look : List ℕ → Option ℤ) (at : ℤ) where
   says-sum sum (term j o) (minus ∷ ts) =
       same-rest ts (term j o) (term j (not o)) minus sum refl refl (sumFrom look at sum (term j (not o)) ts) (says-sum sum (term j (not o)) ts)
   says-sum sum (term j o) (dot ∷ ts) =
-      adds sum at j o ts (dot ∷ ts) (term j o) (with-term sum at j o ownAddress dot ts refl refl (λ n u. inl u) (λ n u. u)) (λ z. says-sum z joint ts)
+      adds sum at j o ts (dot ∷ ts) (term j o)
+      (with-term sum at j o ownAddress dot ts refl refl (λ n u. inl u) (λ n u. u)) (λ z. says-sum z joint ts)
   says-sum sum (term j o) (number v ∷ ts) =
       adds sum v j o ts (number v ∷ ts) (term j o)
       (with-term sum v j o (literal v) (number v) ts refl refl (λ n u. inl u) (λ n u. u)) (λ z. says-sum z joint ts)
@@ -217,7 +207,8 @@ evaluated-says look at s = by (anyUnreadable (tokens s)) refl
     w : Wanted
     w = term positive positive
 
-    by : (c : Bool) → anyUnreadable (tokens s) ≡ c → SaidOf look at (pos 0) w (tokens s) (cond c (refused 16) (sumFrom look at (pos 0) w (tokens s)))
+    by : (c : Bool) → anyUnreadable (tokens s) ≡ c
+        → SaidOf look at (pos 0) w (tokens s) (cond c (refused 16) (sumFrom look at (pos 0) w (tokens s)))
     by true e = inl (refl, no-terms w (tokens s) e)
     by false e = says-sum look at (pos 0) w (tokens s)
 
@@ -295,13 +286,13 @@ module _ (look : List ℕ → Option ℤ) (at : ℤ) where
 
       by : (us : List Term) × (termsFrom joint tks ≡ some us) × (t ∷ us ≡ ts) → addTerm sum j o y rest ≡ asEvaluated sum (signedSum look at ts)
       by r =
-          let us = r .0 in
           let h : ifKnown (atomValue look at a) (checks (r .0)) ≡ true = ap (isWithin look at sum) (r .2) ∙ w in
           let g : checks (r .0) y ≡ true = ap (λ (x : Option ℤ). ifKnown x (checks (r .0))) (sym q) ∙ h in
           let first = and-both (in64 (signTimes o y)) (in64 p && (in64 (sum +ℤ p) && isWithin look at (sum +ℤ p) (r .0))) g in
           let second = and-both (in64 p) (in64 (sum +ℤ p) && isWithin look at (sum +ℤ p) (r .0)) (first .1) in
           let third = and-both (in64 (sum +ℤ p)) (isWithin look at (sum +ℤ p) (r .0)) (second .1) in
-          ap (λ (x : Option ℤ). onFit x (λ p. onFit (fit64 (signTimes j p)) (λ q. onFit (fit64 (sum +ℤ q)) rest))) (fit-yes (signTimes o y) (first .0))
+          ap (λ (x : Option ℤ). onFit x (λ p. onFit (fit64 (signTimes j p)) (λ q. onFit (fit64 (sum +ℤ q)) rest)))
+          (fit-yes (signTimes o y) (first .0))
           ∙ ap (λ (x : Option ℤ). onFit x (λ q. onFit (fit64 (sum +ℤ q)) rest)) (fit-yes p (second .0))
           ∙ ap (λ (x : Option ℤ). onFit x rest) (fit-yes (sum +ℤ p) (third .0))
           ∙ ih (sum +ℤ p) (r .0) (r .1) (third .1)

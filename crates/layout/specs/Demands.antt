@@ -59,11 +59,11 @@ sumOfRounds (r ∷ rs) = r .round + sumOfRounds rs
 -- ---- equates
 
 -- what holds of things of the text and their records, one after the other: each has its record, and others stand above and below that
-abbrev pub InOrder : {A B : Type 0} → (A → List B → B → List B → Type 0) → List A → List B → List B → Type 0
-InOrder P [] above [] = Unit
-InOrder P [] above (r ∷ rs) = ⊥
-InOrder P (x ∷ xs) above [] = ⊥
-InOrder P (x ∷ xs) above (r ∷ rs) = P x above r rs × InOrder P xs (above ++ r ∷ []) rs
+abbrev pub OneByOne : {A B : Type 0} → (A → List B → B → List B → Type 0) → List A → List B → List B → Type 0
+OneByOne P [] above [] = Unit
+OneByOne P [] above (r ∷ rs) = ⊥
+OneByOne P (x ∷ xs) above [] = ⊥
+OneByOne P (x ∷ xs) above (r ∷ rs) = P x above r rs × OneByOne P xs (above ++ r ∷ []) rs
 
 pub record EquateHolds (base : ℕ) (σ : State) (l : Layout) (e : Equate) (above : List EquateAt) (r : EquateAt) (below : List EquateAt) : Type 0 where
   pub name : r .name ≡ e .name
@@ -150,9 +150,9 @@ pub record BeforeRounds (t : List ℕ) (base : ℕ) (k : Lent) (σ : State) (byt
 pub record Holds (base : ℕ) (σ : State) (l : Layout) : Type 0 where
   -- the final labels are the text's, each at its line's address
   pub labels : (n : List ℕ) → recordedAddress (l .labels) n ≡ labelAddress base σ n
-  pub equates : InOrder (EquateHolds base σ l) (σ .rest .equates) [] (l .equates)
+  pub equates : OneByOne (EquateHolds base σ l) (σ .rest .equates) [] (l .equates)
   pub labelWords : (w : LabelWord) → Among w (σ .rest .own .stored .labelWords) → LabelWordHolds l w
-  pub items : InOrder (ItemHolds base l) (σ .rest .own .items .list) [] (l .items)
+  pub items : OneByOne (ItemHolds base l) (σ .rest .own .items .list) [] (l .items)
   -- "Its evaluations are the sum of the n equates' rounds, at most n(n+1)/2"
   pub evaluations : l .evaluations ≡ sumOfRounds (l .equates)
   pub few : 2 * l .evaluations ≤ length (l .equates) * suc (length (l .equates))
