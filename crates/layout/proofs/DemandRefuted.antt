@@ -1,41 +1,72 @@
--- The programs that document 01 excludes by demand 3, "How much the layout promises", 3: whatever answers as they would does not meet it.
-use Prim.Native.Nat.{ℕ}
+-- Whatever answers as the programs would that document 01 excludes by demand 3, "How much the layout promises", 3, does not meet it; nor does
+-- a label one word off, or an li whose words are blank.
+use Prim.Native.Nat.{ℕ, zero, suc, _^_, _<_}
 use mathlib.Core.Path.{_≡_, refl, sym, _∙_, ap, subst}
 use mathlib.Core.List.{List, [], _∷_}
 use mathlib.Core.Bool.{true, false, false≢true}
 use mathlib.Core.Option.{some}
 use native.Mathlib.Omega.{arith}
 use lib.IntN.{ℤ, pos}
+use lib.ListN.{getD, replicate}
 use Rattle.numbers.specs.Results.{value}
 use Rattle.numbers.specs.Text.{text}
+use Rattle.numbers.specs.Registers.{registerOf}
+use Rattle.encoder.specs.Run.{Registers, done, failed, Leaves}
+use Rattle.layout.specs.declared.state.Section.{Section}
 use Rattle.layout.specs.declared.state.Section.the-variants as section
+use Rattle.layout.specs.declared.pseudo.Pseudo.the-variants.{Li}
 use Rattle.layout.specs.Pieces.{piece, lines, linePieces}
 use Rattle.layout.specs.Limits.{roomOf}
-use Rattle.layout.specs.State.{Equate, State, start}
+use Rattle.layout.specs.State.{Label, Equate, ItemLine, Own, State, start}
 use Rattle.layout.specs.Stage.{lineStage}
-use Rattle.layout.specs.Layouts.{Layout, Answer}
+use Rattle.layout.specs.Addresses.{LabelAt}
+use Rattle.layout.specs.Layouts.{EquateAt, ItemAt, Layout, Answer}
 use Rattle.layout.specs.Terms.{Term, termsFrom, termsOf, signedSum, namesIn, isUsed}
 use Rattle.layout.specs.Chains.{Among, first, nameOf, Reaches, uses, onto, Unresolved, undefined, circular, NamesFirst}
 use Rattle.layout.specs.Held.{heldLayout}
-use Rattle.layout.specs.Demands.{recordedValue, recordedAddress, finalValue, largest, sumOfRounds, Holds, Demanded}
+use Rattle.layout.specs.Demands.{recordedValue, recordedAddress, finalValue, largest, sumOfRounds, liValue, Loads, Holds, Demanded}
 use Rattle.layout.proofs.ResultLaws.{value-same, some-same}
 use Rattle.layout.proofs.Computing.{computing}
 use Rattle.layout.proofs.TwelveCases.{full}
 
--- what lines that are equates alone say, in the text section
-abbrev equatesAlone : List Equate → State
-equatesAlone es =
+-- ---- answers
+
+-- an answer of which the caller holds this layout
+pub record Claims (t : List ℕ) (l : Layout) (x : Answer) : Type 0 where
+  pub number : x .number ≡ 0
+  pub held : heldLayout t (x .counts) (x .buffers) ≡ l
+
+-- what its lines say
+abbrev Says : List ℕ → State → Type 0
+Says t σ = lineStage (roomOf full) 0 (linePieces 0 (lines t)) start ≡ value σ
+
+-- it would have to hold of that
+claim-holds : (t : List ℕ) (σ : State) (l : Layout) (x : Answer) → Says t σ → Claims t l x → Demanded t 0 full x → Holds 0 σ l
+claim-holds t σ l x r c d =
+    let h = d .accepted (c .number) in
+    let s : h .0 ≡ σ = value-same (sym (h .2 .read) ∙ r) in
+    subst (λ (τ : State). Holds 0 τ l) s (subst (Holds 0 (h .0)) (c .held) (h .3))
+
+-- ---- states and layouts with one part alone
+
+abbrev stateWith : List Label → List Equate → Own → State
+stateWith ls es own = record { labels = ls; rest = record { equates = es; own = own } }
+
+abbrev ownWith : Section → List ItemLine → ℕ → List ℕ → Own
+ownWith s items words bytes =
+    record { section = s; items = record { list = items; words = words }; stored = record { bytes = bytes; labelWords = [] }; bss = 0 }
+
+abbrev layoutWith : List ℕ → List ℕ → List LabelAt → List EquateAt → List ItemAt → ℕ → Layout
+layoutWith words bytes labels equates items n =
     record {
-      labels = [];
-      rest = record {
-        equates = es;
-        own = record {
-          section = section.Text;
-          items = record { list = []; words = 0 };
-          stored = record { bytes = []; labelWords = [] };
-          bss = 0;
-        };
-      };
+      words = words;
+      dataBytes = bytes;
+      dataBase = 0x1000;
+      bssSize = 0;
+      labels = labels;
+      equates = equates;
+      items = items;
+      evaluations = n;
     }
 
 abbrev equate : ℕ → List ℕ → ℕ → List ℕ → ℕ → Equate
@@ -55,73 +86,133 @@ two = text "a = b+1\nb = 5"
 abbrev a : Equate
 a = equate 0 (text "a") 4 (text "b+1") 0
 
-abbrev b : Equate
-b = equate 8 (text "b") 12 (text "5") 1
+abbrev twoState : State
+twoState = stateWith [] (a ∷ equate 8 (text "b") 12 (text "5") 1 ∷ []) (ownWith section.Text [] 0 [])
 
-read-two : lineStage (roomOf full) 0 (linePieces 0 (lines two)) start ≡ value (equatesAlone (a ∷ b ∷ []))
+two-says : Says two twoState
 unfolding computing
-read-two = refl
+two-says = refl
 
--- a layout with this value and round of a, and so many evaluations
-abbrev claimed : ℤ → ℕ → ℕ → Layout
-claimed v r n =
-    record {
-      words = [];
-      dataBytes = [];
-      dataBase = 0x1000;
-      bssSize = 0;
-      labels = [];
-      equates =
-          record { name = piece 0 (text "a"); line = 0; value = v; round = r } ∷
-          record { name = piece 8 (text "b"); line = 1; value = pos 5; round = 1 } ∷ [];
-      items = [];
-      evaluations = n;
-    }
+-- with this value and round of a, and so many evaluations
+abbrev twoLayout : ℤ → ℕ → ℕ → Layout
+twoLayout v r n =
+    layoutWith [] [] [] (
+      record { name = piece 0 (text "a"); line = 0; value = v; round = r } ∷
+      record { name = piece 8 (text "b"); line = 1; value = pos 5; round = 1 } ∷ []
+    ) [] n
 
--- an answer that claims it
-pub record Claims (v : ℤ) (r n : ℕ) (x : Answer) : Type 0 where
-  pub number : x .number ≡ 0
-  pub held : heldLayout two (x .counts) (x .buffers) ≡ claimed v r n
-
-claim-holds : (v : ℤ) (r n : ℕ) (x : Answer) → Claims v r n x → Demanded two 0 full x → Holds 0 (equatesAlone (a ∷ b ∷ [])) (claimed v r n)
-claim-holds v r n x c d =
-    let h = d .accepted (c .number) in
-    let s : h .0 ≡ equatesAlone (a ∷ b ∷ []) = value-same (sym (h .2 .read) ∙ read-two) in
-    subst (λ (σ : State). Holds 0 σ (claimed v r n)) s (subst (Holds 0 (h .0)) (c .held) (h .3))
+two-holds : (v : ℤ) (r n : ℕ) (x : Answer) → Claims two (twoLayout v r n) x → Demanded two 0 full x → Holds 0 twoState (twoLayout v r n)
+two-holds v r n x = claim-holds two twoState (twoLayout v r n) x two-says
 
 -- "an evaluation count made up as n"
-pub count-made-up : (x : Answer) → Claims (pos 6) 2 2 x → Demanded two 0 full x → ⊥
+pub count-made-up : (x : Answer) → Claims two (twoLayout (pos 6) 2 2) x → Demanded two 0 full x → ⊥
 unfolding sumOfRounds
-count-made-up x c d = let e = claim-holds (pos 6) 2 2 x c d .evaluations in omega arith
+count-made-up x c d = let e = two-holds (pos 6) 2 2 x c d .evaluations in omega arith
 
 -- "a layout that resolves round one and fills the later equates with zeros"
-pub later-zeros : (x : Answer) → Claims (pos 0) 2 3 x → Demanded two 0 full x → ⊥
+pub later-zeros : (x : Answer) → Claims two (twoLayout (pos 0) 2 3) x → Demanded two 0 full x → ⊥
 unfolding computing termsFrom signedSum recordedValue recordedAddress
 later-zeros x c d = by (h .equates .0 .terms) (h .equates .0 .wellFormed) (h .equates .0 .value)
   where
-    h : Holds 0 (equatesAlone (a ∷ b ∷ [])) (claimed (pos 0) 2 3)
-    h = claim-holds (pos 0) 2 3 x c d
+    l : Layout
+    l = twoLayout (pos 0) 2 3
+
+    h : Holds 0 twoState l
+    h = two-holds (pos 0) 2 3 x c d
 
     -- under the value that is claimed of b it is 6
-    by : (ts : List Term) → termsOf a ≡ some ts → signedSum (finalValue (claimed (pos 0) 2 3)) (pos 0) ts ≡ some (pos 0) → ⊥
+    by : (ts : List Term) → termsOf a ≡ some ts → signedSum (finalValue l) (pos 0) ts ≡ some (pos 0) → ⊥
     by ts e v =
-        let w : some (pos 6) ≡ some (pos 0) = ap (signedSum (finalValue (claimed (pos 0) 2 3)) (pos 0)) (some-same e) ∙ v in
+        let w : some (pos 6) ≡ some (pos 0) = ap (signedSum (finalValue l) (pos 0)) (some-same e) ∙ v in
         let y : _≡_ {A = ℕ} 6 0 = cc in
         omega arith
 
 -- a round that the law does not give
-pub round-made-up : (x : Answer) → Claims (pos 6) 1 2 x → Demanded two 0 full x → ⊥
+pub round-made-up : (x : Answer) → Claims two (twoLayout (pos 6) 1 2) x → Demanded two 0 full x → ⊥
 unfolding computing namesIn largest
-round-made-up x c d = let e : _≡_ {A = ℕ} 1 2 = claim-holds (pos 6) 1 2 x c d .equates .0 .round in omega arith
+round-made-up x c d = let e : _≡_ {A = ℕ} 1 2 = two-holds (pos 6) 1 2 x c d .equates .0 .round in omega arith
+
+-- ---- `t: .byte 7` in data: a label one word off
+
+abbrev lettered : List ℕ
+lettered = text ".data\nt: .byte 7"
+
+abbrev letteredState : State
+letteredState =
+    stateWith (record { name = piece 6 (text "t"); place = record { section = section.Data; offset = 0 }; line = 1 } ∷ []) []
+    (ownWith section.Data [] 0 (7 ∷ []))
+
+lettered-says : Says lettered letteredState
+unfolding computing
+lettered-says = refl
+
+abbrev letteredLayout : ℕ → Layout
+letteredLayout n = layoutWith [] (7 ∷ []) (record { name = piece 6 (text "t"); address = n; line = 1 } ∷ []) [] [] 0
+
+pub label-off : (x : Answer) → Claims lettered (letteredLayout 0x1004) x → Demanded lettered 0 full x → ⊥
+unfolding computing recordedAddress
+label-off x c d =
+    let e : _≡_ {A = ℕ} 0x1004 0x1000 =
+    some-same (claim-holds lettered letteredState (letteredLayout 0x1004) x lettered-says c d .labels (text "t")) in
+    omega arith
+
+-- ---- `li a0, 5`: words that are blank
+
+abbrev loading : List ℕ
+loading = text "li a0, 5"
+
+abbrev loadingState : State
+loadingState = stateWith [] [] (ownWith section.Text (record { offset = 0; line = 0; item = some Li; source = piece 0 loading } ∷ []) 1 [])
+
+loading-says : Says loading loadingState
+unfolding computing
+loading-says = refl
+
+abbrev loadingLayout : ℕ → Layout
+loadingLayout w = layoutWith (w ∷ []) [] [] [] (record { address = 0; line = 0; kind = 1; first = 0; source = piece 0 loading } ∷ []) 0
+
+-- registers that hold zeros
+zeros : Registers (replicate 32 0)
+zeros = record { count = refl; below = λ r. at 32 r }
+  where
+    at : (n r : ℕ) → getD (replicate n 0) r 0 < 2 ^ 32
+    at zero r = omega arith
+    at (suc n) zero = omega arith
+    at (suc n) (suc r) = at n r
+
+blank-fails : (r v : ℕ) → Leaves (0 ∷ []) r v → ⊥
+blank-fails r v g = by (g (replicate 32 0) zeros .1)
+  where
+    by : {after : List ℕ} → failed ≡ done after → ⊥
+    by e = let q : _≡_ {A = ℕ} 0 1 = cc in omega arith
+
+pub words-blank : (x : Answer) → Claims loading (loadingLayout 0) x → Demanded loading 0 full x → ⊥
+unfolding computing
+words-blank x c d = by (h .items .0 .li refl)
+  where
+    h : Holds 0 loadingState (loadingLayout 0)
+    h = claim-holds loading loadingState (loadingLayout 0) x loading-says c d
+
+    by : Loads loading (0 ∷ []) (liValue (loadingLayout 0)) → ⊥
+    by g =
+        let p : text "a0" ≡ g .first = first-same (g .operands) in
+        let e : _≡_ {A = ℕ} 10 (g .register) = some-same (ap registerOf p ∙ g .isRegister) in
+        blank-fails (g .register) _ (g .leaves (omega arith))
+      where
+        first-same : {a b c d : List ℕ} → _≡_ {A = List (List ℕ)} (a ∷ b ∷ []) (c ∷ d ∷ []) → a ≡ c
+        first-same e = cc
 
 -- ---- `a = 5`: "one that says 17 before the first round"
 
 abbrev five : Equate
 five = equate 0 (text "a") 4 (text "5") 0
 
-read-five : lineStage (roomOf full) 0 (linePieces 0 (lines (text "a = 5"))) start ≡ value (equatesAlone (five ∷ []))
+abbrev fiveState : State
+fiveState = stateWith [] (five ∷ []) (ownWith section.Text [] 0 [])
+
+five-says : Says (text "a = 5") fiveState
 unfolding computing
-read-five = refl
+five-says = refl
 
 uses-none : (n : List ℕ) → isUsed five n ≡ true → ⊥
 unfolding computing namesIn
@@ -131,18 +222,18 @@ reaches-none : {e : Equate} {n : List ℕ} → Reaches (five ∷ []) e n → e �
 reaches-none {n = n} (uses u) q = uses-none n (ap (λ (x : Equate). isUsed x n) (sym q) ∙ u)
 reaches-none (onto d m u r) q = uses-none (nameOf d) (ap (λ (x : Equate). isUsed x (nameOf d)) (sym q) ∙ u)
 
-starts-none : Unresolved (equatesAlone (five ∷ [])) five → ⊥
+starts-none : Unresolved fiveState five → ⊥
 starts-none (undefined n r u) = reaches-none r refl
 starts-none (circular d m r c) = reaches-none r refl
 
 pub seventeen-early : (x : Answer) → x .number ≡ 17 → Demanded (text "a = 5") 0 full x → ⊥
 seventeen-early x n d =
     let h = d .unresolved n in
-    let s : h .0 ≡ equatesAlone (five ∷ []) = value-same (sym (h .2 .read) ∙ read-five) in
+    let s : h .0 ≡ fiveState = value-same (sym (h .2 .read) ∙ five-says) in
     by (subst (λ (σ : State). NamesFirst σ (x .line)) s (h .3))
   where
-    last : (e : Equate) → Among e (five ∷ []) → Unresolved (equatesAlone (five ∷ [])) e → ⊥
+    last : (e : Equate) → Among e (five ∷ []) → Unresolved fiveState e → ⊥
     last e first u = starts-none u
 
-    by : NamesFirst (equatesAlone (five ∷ [])) (x .line) → ⊥
+    by : NamesFirst fiveState (x .line) → ⊥
     by f = last (f .equate) (f .among) (f .starts)
