@@ -109,8 +109,10 @@ pub unresolved-cases :
     × (laid (text "a = u") ≡ no 17 0)
     × (laid (text "a = 1\nb = a + u") ≡ no 17 1)
     × (laid (text "a = u +") ≡ no 17 0)
+    -- no product or partial sum is formed behind the unknown name
+    × (laid (text "a = u + 9223372036854775807 + 1") ≡ no 17 0)
 unfolding computing
-unresolved-cases = (refl, refl, refl, refl, refl, refl)
+unresolved-cases = (refl, refl, refl, refl, refl, refl, refl)
 
 -- each of document 01's conditions is needed: an equate starts a chain, and another number comes
 pub other-cases :

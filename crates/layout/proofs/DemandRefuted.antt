@@ -97,8 +97,8 @@ two-says = refl
 abbrev twoLayout : ℤ → ℕ → ℕ → Layout
 twoLayout v r n =
     layoutWith [] [] [] (
-      record { name = piece 0 (text "a"); line = 0; value = v; round = r } ∷
-      record { name = piece 8 (text "b"); line = 1; value = pos 5; round = 1 } ∷ []
+    record { name = piece 0 (text "a"); line = 0; value = v; round = r } ∷
+    record { name = piece 8 (text "b"); line = 1; value = pos 5; round = 1 } ∷ []
     ) [] n
 
 two-holds : (v : ℤ) (r n : ℕ) (x : Answer) → Claims two (twoLayout v r n) x → Demanded two 0 full x → Holds 0 twoState (twoLayout v r n)
