@@ -36,6 +36,10 @@ pub at-among : {d : Equate} (F : List Known) → Among d (map (λ k. k .equate) 
 at-among (k ∷ F) first = (0, k, here, refl)
 at-among (k ∷ F) (later a) = let r = at-among F a in (suc (r .0), r .1, there (r .2), r .3)
 
+pub among-each : {A : Type 0} {x : A} {xs : List A} (P : A → Type 0) → Each P xs → Among x xs → P x
+among-each P g first = g .0
+among-each P g (later a) = among-each P (g .1) a
+
 -- a name that is none of the equates'
 pub named-none : {d : Equate} {es : List Equate} (n : List ℕ) → Among d es → isOneOf (map nameOf es) n ≡ false → nameOf d ≡ n → ⊥
 named-none {d} n (first {xs = es}) e q = by (same (nameOf d) n) (ap (λ (m : List ℕ). same m n) q ∙ same-refl n) e
@@ -299,11 +303,11 @@ module _ (σ : State) (F : List Known) (eq : map (λ k. k .equate) F ≡ σ .res
 -- ---- the first line that is left over
 
 -- a pending equate at a line
-abbrev PendingAt : List Known → ℕ → Type 0
+abbrev pub PendingAt : List Known → ℕ → Type 0
 PendingAt F line = (j : ℕ) × (k : Known) × At F j k × (k .found ≡ none) × (k .equate .line ≡ line)
 
 -- there is one
-first-left : (F : List Known) → 0 < pendingCount F → PendingAt F (firstPending F)
+pub first-left : (F : List Known) → 0 < pendingCount F → PendingAt F (firstPending F)
 unfolding pendingCount firstPending
 first-left [] h = absurd (omega arith)
 first-left (k ∷ ks) h = by (k .found) refl (first-left ks) h

@@ -24,13 +24,12 @@ use Rattle.layout.specs.Demands.{Chained}
 use Rattle.layout.specs.code.Fits.{Each}
 use Rattle.layout.proofs.Each.{each-append}
 use Rattle.layout.proofs.Gives.{Comes, and-then-comes}
-use Rattle.layout.proofs.Ending.{equates-all}
 use Rattle.layout.proofs.SumLaws.{never-refused, summed-whole}
-use Rattle.layout.proofs.RoundHistory.{At, here, there, at-same, of-each, given}
+use Rattle.layout.proofs.RoundHistory.{At, here, there, at-same, of-each, equates-all, given}
 use Rattle.layout.proofs.RoundLaws.{knownName, some-one, at-middle}
 use Rattle.layout.proofs.ChainLaws.{among-at, named-none, none-chained}
 use Rattle.layout.proofs.ResolveLaws.{placeOf, TurnSays, named-label, named-again, tries, turn-says, tried, Sums, turn-said}
-use Rattle.layout.proofs.ResolveLaws.{own-evaluator, RoundsCome, resolve-comes}
+use Rattle.layout.proofs.ResolveLaws.{own-evaluator, RoundsCome, all-end}
 
 -- ---- distinct names
 
@@ -196,7 +195,7 @@ module _ (base : ℕ) (σ : State) (C : Conditions base σ) where
   pub chained-unresolved : Chained σ → (r : Refusal) × (resolve base σ (σ .rest .equates) ≡ refused r) × (r .number ≡ 17)
   chained-unresolved u =
       let s : Safe (map pendingEquate es) = record { equates = equates-all es; each = start-safe es } in
-      by (resolve base σ es) refl (rounds-safe (suc (length es)) 1 (map pendingEquate es) 0 s) (resolve-comes base σ es)
+      by (resolve base σ es) refl (rounds-safe (suc (length es)) 1 (map pendingEquate es) 0 s) (all-end base σ es)
     where
       es : List Equate
       es = σ .rest .equates

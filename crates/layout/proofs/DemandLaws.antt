@@ -22,20 +22,19 @@ use Rattle.layout.specs.Addresses.{placed, ordered, labelAddress, fillOn
 use Rattle.layout.specs.Rounds.{constant, turn, Turns}
 use Rattle.layout.specs.Layouts.{ItemAt, Layout, emission, Emitted, itemAt, emit, foundEquates, refuseIf, checkBytes}
 use Rattle.layout.specs.Layouts.{resolve, layout, afterLines, layoutOf}
-use Rattle.layout.specs.Chains.{Among, first, later, NamesFirst, Conditions}
+use Rattle.layout.specs.Chains.{Among, NamesFirst, Conditions}
 use Rattle.layout.specs.Demands.{recordedAddress, EquateHolds, OneByOne, LabelWordHolds, BeforeRounds, Holds, Chained}
-use Rattle.layout.specs.code.Fits.{Each, Fits}
+use Rattle.layout.specs.code.Fits.{Fits}
 use Rattle.layout.proofs.ResultLaws.{refused-value, value-same, refused-same}
 use Rattle.layout.proofs.Gives.{Comes, and-then-comes}
 use Rattle.layout.proofs.Kept.{stage-fits}
-use Rattle.layout.proofs.Ending.{triangle}
 use Rattle.layout.proofs.Emissions.{WordsFit, PseudoRefusal, emission-fits}
 use Rattle.layout.proofs.Fields.{LayoutFits, layout-fits}
 use Rattle.layout.proofs.StageOrder.{isEarly, Early, EarlyAt, Laid, StageLaid, stage-laid}
-use Rattle.layout.proofs.RoundHistory.{AllFound, none-pending}
+use Rattle.layout.proofs.RoundHistory.{triangle, AllFound, none-pending}
 use Rattle.layout.proofs.RoundLaws.{spent-sum}
-use Rattle.layout.proofs.ChainLaws.{stuck-names}
-use Rattle.layout.proofs.ResolveLaws.{turn-early, own-evaluator, RoundsRefused, by-turn, by-end, RoundsCome, resolve-comes}
+use Rattle.layout.proofs.ChainLaws.{among-each, stuck-names}
+use Rattle.layout.proofs.ResolveLaws.{turn-early, own-evaluator, RoundsRefused, by-turn, by-end, RoundsCome, all-end}
 use Rattle.layout.proofs.ConditionLaws.{chained-unresolved}
 use Rattle.layout.proofs.EquatesHold.{value-recorded, address-recorded, equates-hold}
 use Rattle.layout.proofs.FillLaws.{WordHolds, fill-holds, address-below}
@@ -194,7 +193,7 @@ refusal-numbered t base k r e = by (way t base k)
     by : Way t base k (layoutOf t base k) → 0 < r .number
     by (before s h q) = early-some (r .number) (ap (λ (x : Refusal). isEarly (x .number)) (refused-same (sym e ∙ q)) ∙ h)
     by (rounds σ bytes b q) =
-        last (ownRounds base σ) (after-refused base σ bytes (ownRounds base σ) (resolve-comes base σ (σ .rest .equates)) r (sym q ∙ e))
+        last (ownRounds base σ) (after-refused base σ bytes (ownRounds base σ) (all-end base σ (σ .rest .equates)) r (sym q ∙ e))
 
 -- for every text: where the answer is 17, its line is the first whose equate starts a chain of uses that comes back to a name in it or reaches
 -- an undefined one
@@ -203,7 +202,7 @@ pub unresolved-line : (t : List ℕ) (base : ℕ) (k : Lent) (r : Refusal) → l
 unresolved-line t base k r e n = by (way t base k)
   where
     names : (σ : State) (bytes : List ℕ) → BeforeRounds t base k σ bytes → ownRounds base σ ≡ refused r → NamesFirst σ (r .line)
-    names σ bytes b q = last (rw q at (resolve-comes base σ (σ .rest .equates)))
+    names σ bytes b q = last (rw q at (all-end base σ (σ .rest .equates)))
       where
         laid : Laid (0 + length (linePieces 0 (lines t))) σ
         laid = rw (b .read) at (stage-laid t (roomOf k))
@@ -220,7 +219,7 @@ unresolved-line t base k r e n = by (way t base k)
 
     by : Way t base k (layoutOf t base k) → (σ : State) × (bytes : List ℕ) × BeforeRounds t base k σ bytes × NamesFirst σ (r .line)
     by (before s h q) = absurd (not-late (r .number) n (ap (λ (x : Refusal). isEarly (x .number)) (refused-same (sym e ∙ q)) ∙ h))
-    by (rounds σ bytes b q) = rest σ bytes b (after-refused base σ bytes (ownRounds base σ) (resolve-comes base σ (σ .rest .equates)) r (sym q ∙ e))
+    by (rounds σ bytes b q) = rest σ bytes b (after-refused base σ bytes (ownRounds base σ) (all-end base σ (σ .rest .equates)) r (sym q ∙ e))
 
 -- under document 01's conditions 17 comes exactly when an equate starts such a chain
 pub unresolved-exactly : (t : List ℕ) (base : ℕ) (k : Lent) (σ : State) (bytes : List ℕ) → BeforeRounds t base k σ bytes → Conditions base σ
@@ -241,10 +240,6 @@ triangle-is : (n : ℕ) → 2 * triangle n ≡ n * suc n
 unfolding triangle
 triangle-is zero = refl
 triangle-is (suc n) = omega (arith, triangle-is n, suc-mul n (suc (suc n)), mul-suc n (suc n))
-
-among-each : {A : Type 0} {x : A} {xs : List A} (P : A → Type 0) → Each P xs → Among x xs → P x
-among-each P g first = g .0
-among-each P g (later a) = among-each P (g .1) a
 
 module _ (t : List ℕ) (base : ℕ) (k : Lent) (σ : State) (bytes : List ℕ) (b : BeforeRounds t base k σ bytes) where
   laid : Laid (0 + length (linePieces 0 (lines t))) σ
@@ -318,4 +313,4 @@ accepted-holds t base k l e = by (way t base k)
 
     by : Way t base k (layoutOf t base k) → (σ : State) × (bytes : List ℕ) × BeforeRounds t base k σ bytes × Holds base σ l
     by (before r h q) = absurd (refused-value (sym q ∙ e))
-    by (rounds σ bytes b q) = (σ, bytes, b, resolves σ bytes b (ownRounds base σ) (resolve-comes base σ (σ .rest .equates)) (sym q ∙ e))
+    by (rounds σ bytes b q) = (σ, bytes, b, resolves σ bytes b (ownRounds base σ) (all-end base σ (σ .rest .equates)) (sym q ∙ e))

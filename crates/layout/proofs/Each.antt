@@ -2,7 +2,6 @@
 use Prim.Native.Nat.{ℕ, zero, suc, _<_}
 use native.Mathlib.Nat.{not-suc-le-zero, le-of-suc-le-suc}
 use lib.ListN.{length, getD}
-use mathlib.Core.Logic.{_⊎_, inl, inr}
 use mathlib.Core.List.{List, [], _∷_, _++_, map}
 use mathlib.Core.Bool.{Bool, true, false, cond}
 use Rattle.layout.specs.code.Fits.{Each}
@@ -36,21 +35,6 @@ each-map P Q f h (x ∷ xs) g = (h x (g .0), each-map P Q f h xs (g .1))
 pub each-mapped : {A B : Type 0} (Q : B → Type 0) (f : A → B) (xs : List A) → Each Q (map f xs) → Each (λ x. Q (f x)) xs
 each-mapped Q f [] g = tt
 each-mapped Q f (x ∷ xs) g = (g .0, each-mapped Q f xs (g .1))
-
--- a property of one element at least
-module _ {A : Type 0} where
-  abbrev pub Any : (A → Type 0) → List A → Type 0
-  Any P [] = ⊥
-  Any P (x ∷ xs) = P x ⊎ Any P xs
-
-  -- an element that has both what every element has and what one has
-  pub each-any : (P Q : A → Type 0) (xs : List A) → Each P xs → Any Q xs → (x : A) × P x × Q x
-  each-any P Q [] g s = absurd s
-  each-any P Q (x ∷ xs) g s = by s (each-any P Q xs (g .1))
-    where
-      by : Q x ⊎ Any Q xs → (Any Q xs → (x : A) × P x × Q x) → (x : A) × P x × Q x
-      by (inl q) more = (x, g .0, q)
-      by (inr s) more = more s
 
 -- the kth element
 pub each-at : {A : Type 0} (P : A → Type 0) (rs : List A) (d : A) (k : ℕ) → Each P rs → k < length rs → P (getD rs k d)

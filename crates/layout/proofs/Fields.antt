@@ -29,20 +29,23 @@ use Rattle.layout.specs.Stage.{isLabel, lineStage}
 use Rattle.layout.specs.Addresses.{placed, ordered, addressAt, sectionStart, labelAddress, fillOne, fill}
 use Rattle.layout.specs.Expressions.{Token, plus, minus, dot, number, name, unreadable, tokens, anyUnreadable, Evaluated, positive, negative}
 use Rattle.layout.specs.Expressions.{Wanted, term, joint, onFit, addTerm, onName, sumFrom, evaluate}
-use Rattle.layout.specs.Rounds.{Known, pendingEquate, constant, look, isSome, turn, Turns}
+use Rattle.layout.specs.Rounds.{Found, Known, constant, look, isSome, turn, Turns}
 use Rattle.layout.specs.Records.{Field, fieldBytes, equateRecord, equateFields, itemRecord, itemFields, tableOf}
 use Rattle.layout.specs.Layouts.{EquateAt, ItemAt, Layout, emission, Emitted, itemAt, emit, foundEquates, refuseIf, checkBytes}
 use Rattle.layout.specs.Layouts.{resolve, layout, afterLines, layoutOf, Counts, Buffers, Answer, answerOf, callOf}
+use Rattle.layout.specs.Chains.{Among}
 use Rattle.layout.specs.code.Places.{sectionLimit, PlaceFits}
 use Rattle.layout.specs.code.Fits.{Each, Inside, LabelFits, EquateFits, ItemFits, LabelWordFits, Fits, reservedIn}
 use Rattle.layout.specs.code.Orders.{labelRow, LabelAtFits}
-use Rattle.layout.proofs.Each.{_and_, each-append, each-weaker, each-map, each-mapped, each-any}
+use Rattle.layout.proofs.Each.{_and_, each-append, each-weaker, each-map, each-mapped}
 use Rattle.layout.proofs.Gives.{Comes, comes-so, and-then-comes}
 use Rattle.layout.proofs.ByteLaws.{length-le, length-put, length-padded}
 use Rattle.layout.proofs.Emissions.{IsWord, WordsFit, PseudoRefusal, emission-fits}
 use Rattle.layout.proofs.Kept.{stage-fits}
 use Rattle.layout.proofs.OrderLaws.{ordered-permutes, permuted-length, permuted-each}
-use Rattle.layout.proofs.Ending.{AtEquate, Resolved, Ended, triangle, pending-all, equates-all, all-end}
+use Rattle.layout.proofs.RoundHistory.{At, each-of, of-each, shown, triangle, ToldFound, AllFound, IsFound, none-pending}
+use Rattle.layout.proofs.ChainLaws.{among-at, among-each, first-left}
+use Rattle.layout.proofs.ResolveLaws.{RoundsRefused, by-turn, by-end, all-end}
 
 -- ---- values
 
@@ -234,26 +237,41 @@ placed-fit t base σ low short l g = record { name = g .name; address = place-be
 
 -- ---- the equates' records
 
-module _ (t : List ℕ) (base : ℕ) (σ : State) (n : ℕ) where
-  found-length : (ks : List Known) → Each (Resolved base σ n) ks → length (foundEquates ks) ≡ length ks
-  unfolding foundEquates
-  found-length [] r = refl
-  found-length (k ∷ ks) r = rw (r .0 .is) (ap suc (found-length ks (r .1)))
+found-length : (ks : List Known) → Each IsFound ks → length (foundEquates ks) ≡ length ks
+unfolding foundEquates
+found-length [] r = refl
+found-length (k ∷ ks) r = rw (r .0 .1) (ap suc (found-length ks (r .1)))
 
-  found-fits : (ks : List Known) → Each (λ k. EquateFits t (k .equate)) ks → Each (Resolved base σ n) ks
-      → Each (EquateAtFits t n) (foundEquates ks)
+module _ (t : List ℕ) (base : ℕ) (σ : State) (n : ℕ) where
+  -- a value of 64 signed bits, found in a round from 1 to n
+  record ValueIn (k : Known) : Type 0 where
+    found : Found
+    is : k .found ≡ some found
+    from : 1 ≤ found .round
+    to : found .round ≤ n
+    value : in64 (found .value) ≡ true
+
+  values-in : (es : List Equate) (x : Turns) → length es ≤ n → AllFound (turn base σ) es (x .known) (x .evaluations) → Each ValueIn (x .known)
+  values-in es x h a =
+      each-of ValueIn (x .known) (λ i k p. by i k p (of-each IsFound (none-pending (x .known) (a .found)) p))
+    where
+      by : (i : ℕ) (k : Known) → At (x .known) i k → IsFound k → ValueIn k
+      by i k p f =
+          let d : ToldFound (turn base σ) (a .last) (x .known) i (k .equate) (f .0) = rw (f .1) at (a .history i k p) in
+          record {
+            found = f .0;
+            is = f .1;
+            from = d .from;
+            to = omega (arith, d .to, a .few);
+            value = rw (d .gave) at (turn-fits base σ (shown (f .0 .round) i 0 (x .known)) (k .equate));
+          }
+
+  found-fits : (ks : List Known) → Each (λ k. EquateFits t (k .equate)) ks → Each ValueIn ks → Each (EquateAtFits t n) (foundEquates ks)
   unfolding foundEquates
   found-fits [] g r = tt
   found-fits (k ∷ ks) g r =
-      let d = r .0 .dated in
       rw (r .0 .is) (
-        record {
-          name = g .0 .name;
-          line = g .0 .line;
-          value = rw (d .gave) at (turn-fits base σ (d .known) (k .equate));
-          from = d .from;
-          to = d .to;
-        },
+        record { name = g .0 .name; line = g .0 .line; value = r .0 .value; from = r .0 .from; to = r .0 .to },
         found-fits ks (g .1) (r .1),
       )
 
@@ -287,7 +305,7 @@ module _ (t : List ℕ) (short : length t ≤ textLimit) (base : ℕ) (low : bas
         (f .labels .each)
 
     accepted-fits : (bytes : List ℕ) → length bytes ≡ length (σ .rest .own .stored .bytes)
-        → (x : Turns) → Ended base σ (length (σ .rest .equates)) (map pendingEquate (σ .rest .equates)) 0 x
+        → (x : Turns) → AllFound (turn base σ) (σ .rest .equates) (x .known) (x .evaluations)
         → (e : Emitted) → Emits t (σ .rest .own .items .list) [] [] e → LayoutFits t k (layout base σ bytes x e)
     accepted-fits bytes b x d e g =
         record {
@@ -300,10 +318,10 @@ module _ (t : List ℕ) (short : length t ≤ textLimit) (base : ℕ) (low : bas
           labels = rw (permuted-length permuted, length-map (σ .labels) (placed base σ)) (f .labels .few);
           eachLabel = permuted-each (LabelAtFits t) permuted labels-fit;
           equates = rw count (f .rest .equates .few);
-          eachEquate = rw count (found-fits t base σ (length es) (x .known) each (d .each));
+          eachEquate = rw count (found-fits t base σ (length es) (x .known) each (values-in t base σ (length es) es x (omega arith) d));
           items = omega (arith, g .count, f .rest .own .items .few);
           eachItem = g .items;
-          evaluations = rw (count, ← pending-all es) (omega (arith, d .evaluations));
+          evaluations = rw count (d .bound);
         }
       where
         es : List Equate
@@ -312,22 +330,20 @@ module _ (t : List ℕ) (short : length t ≤ textLimit) (base : ℕ) (low : bas
         permuted : List·Permᴰ (ordered (map (placed base σ) (σ .labels))) (map (placed base σ) (σ .labels))
         permuted = ordered-permutes (map (placed base σ) (σ .labels))
 
-        same : map (λ y. y .equate) (x .known) ≡ es
-        same = d .equates ∙ equates-all es
-
         each : Each (λ y. EquateFits t (y .equate)) (x .known)
-        each = each-mapped (EquateFits t) (λ y. y .equate) (x .known) (rw same (f .rest .equates .each))
+        each = each-mapped (EquateFits t) (λ y. y .equate) (x .known) (rw (d .equates) (f .rest .equates .each))
 
         count : length (foundEquates (x .known)) ≡ length es
-        count = found-length t base σ (length es) (x .known) (d .each) ∙ sym (length-map (x .known) (λ y. y .equate)) ∙ ap length same
+        count =
+            found-length (x .known) (none-pending (x .known) (d .found)) ∙ sym (length-map (x .known) (λ y. y .equate)) ∙ ap length (d .equates)
 
     -- a refusal of the rounds stands at an equate's line
-    rounds-line : (r : Refusal) → AtEquate (map pendingEquate (σ .rest .equates)) r → InText t r
-    rounds-line r s =
-        let ks = map pendingEquate (σ .rest .equates) in
-        let said = each-map (EquateFits t) (λ x. EquateFits t (x .equate)) pendingEquate (λ x q. q) (σ .rest .equates) (f .rest .equates .each) in
-        let at = each-any (λ x. EquateFits t (x .equate)) (λ x. x .equate .line ≡ r .line) ks said s in
-        omega (arith, at .1 .line, at .2)
+    rounds-line : (r : Refusal) → RoundsRefused base σ (σ .rest .equates) r → InText t r
+    rounds-line r (by-turn x) = omega (arith, x .line, among-each (EquateFits t) (f .rest .equates .each) (x .among) .line)
+    rounds-line r (by-end n s) =
+        let p = first-left (s .left) (s .pending) in
+        let m : Among (p .1 .equate) (σ .rest .equates) = rw (s .equates) at (among-at (p .2)) in
+        omega (arith, s .is, p .4, among-each (EquateFits t) (f .rest .equates .each) m .line)
 
     pub after-lines-fits : Comes (LayoutFits t k) (InText t) (afterLines base σ)
     unfolding afterLines
@@ -337,14 +353,13 @@ module _ (t : List ℕ) (short : length t ≤ textLimit) (base : ℕ) (low : bas
         let label = labelAddress base σ in
         let n = length (own .stored .bytes) in
         let all : List ℕ → Turns → Emitted → Layout = layout base σ in
+        let Found-all : Turns → Type 0 = λ x. AllFound (turn base σ) es (x .known) (x .evaluations) in
         let emitting : Turns → Result Refusal Emitted = λ x. emit base (constant (x .known)) label (own .items .list) [] [] in
         and-then-comes (λ bs. length bs ≡ n) (LayoutFits t k) (InText t) (fill label (own .stored .labelWords) (own .stored .bytes))
         (λ bytes. andThen (resolve base σ es) (λ x. andThen (emitting x) (λ e. value (all bytes x e))))
         (fill-fits t label (own .stored .labelWords) n (own .stored .bytes) refl (f .rest .own .stored .each)) (λ bytes b.
-        and-then-comes (Ended base σ (length es) (map pendingEquate es) 0) (LayoutFits t k) (InText t) (resolve base σ es)
-        (λ x. andThen (emitting x) (λ e. value (all bytes x e)))
-        (comes-so (Ended base σ (length es) (map pendingEquate es) 0) (Ended base σ (length es) (map pendingEquate es) 0)
-        (AtEquate (map pendingEquate es)) (InText t) (λ x d. d) rounds-line (resolve base σ es) (all-end base σ es)) (λ x d.
+        and-then-comes Found-all (LayoutFits t k) (InText t) (resolve base σ es) (λ x. andThen (emitting x) (λ e. value (all bytes x e)))
+        (comes-so Found-all Found-all (RoundsRefused base σ es) (InText t) (λ x d. d) rounds-line (resolve base σ es) (all-end base σ es)) (λ x d.
         and-then-comes (Emits t (own .items .list) [] []) (LayoutFits t k) (InText t) (emitting x) (λ e. value (all bytes x e))
         (emit-fits t base low (constant (x .known)) label (own .items .list) [] [] (f .rest .own .items .each) tt tt)
         (accepted-fits bytes b x d)))

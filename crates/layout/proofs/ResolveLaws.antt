@@ -1,5 +1,5 @@
 -- The layout's own rounds: what an equate's turn says, that the rounds leave a history, and that a value is the signed sum at the end.
-use Prim.Native.Nat.{ℕ, zero, suc, _+_, _<_}
+use Prim.Native.Nat.{ℕ, zero, suc, _+_, _≤_, _<_}
 use mathlib.Core.Path.{_≡_, refl, sym, _∙_, ap}
 use mathlib.Core.Logic.{_⊎_, inl, inr}
 use mathlib.Core.List.{List, [], _∷_, _++_, map, append-nil, append-assoc}
@@ -26,10 +26,9 @@ use Rattle.layout.specs.Terms.{Term, termsOf, signedSum}
 use Rattle.layout.specs.Chains.{Among, first, later, nameOf}
 use Rattle.layout.proofs.ResultLaws.{value-refused, refused-same}
 use Rattle.layout.proofs.Gives.{Comes, comes-so, and-then-comes}
-use Rattle.layout.proofs.Ending.{pending-all, equates-all}
 use Rattle.layout.proofs.SumLaws.{SaidOf, Summed, Waits, evaluated-says, summed-whole, sum-more}
 use Rattle.layout.proofs.StageOrder.{isEarly, Early}
-use Rattle.layout.proofs.RoundHistory.{At, shown, given, spent, start-spent, Steps, no-more, kept, gained, waiting, steps-equates}
+use Rattle.layout.proofs.RoundHistory.{At, shown, pending-all, equates-all, triangle, triangle-more, given, spent, start-spent, Steps, no-more, kept, gained, waiting, steps-equates}
 use Rattle.layout.proofs.RoundHistory.{steps-fewer, steps-spent, steps-still, History, history-low, history-start, history-next, AllFound, Stuck}
 use Rattle.layout.proofs.RoundLaws.{none-all, some-one, seen-some, Free, Has, Evaluator, told, found-free, same-one}
 
@@ -74,9 +73,6 @@ label-not base σ n e = by (isLabel n (σ .labels)) refl
 -- ---- a turn
 
 module _ (base : ℕ) (σ : State) where
-  abbrev pub ownTurn : List Known → Equate → Evaluated
-  ownTurn = turn base σ
-
   abbrev pub placeOf : Equate → ℤ
   placeOf e = pos (addressAt base σ (e .place))
 
@@ -226,7 +222,7 @@ module _ (base : ℕ) (σ : State) where
   later-refused : (e : Equate) (es : List Equate) (r : Refusal) → TurnRefused es r → TurnRefused (e ∷ es) r
   later-refused e es r t = record { equate = t .equate; among = later (t .among); line = t .line; seen = t .seen; refuses = t .refuses }
 
-  pass-is : (r : ℕ) (done ks : List Known) (n : ℕ) → Comes (PassIs r done ks n) (TurnRefused (map (λ k. k .equate) ks)) (pass base σ r done ks n)
+  pub pass-is : (r : ℕ) (done ks : List Known) (n : ℕ) → Comes (PassIs r done ks n) (TurnRefused (map (λ k. k .equate) ks)) (pass base σ r done ks n)
   unfolding pass pendingCount
   pass-is r done [] n = record { after = []; are = sym (append-nil done); steps = no-more; evaluated = omega arith }
   pass-is r done (k ∷ ks) n =
@@ -253,16 +249,18 @@ module _ (base : ℕ) (σ : State) where
   abbrev pub RoundsCome : List Equate → Result Refusal Turns → Type 0
   RoundsCome es x = Comes (λ y. AllFound (turn base σ) es (y .known) (y .evaluations)) (RoundsRefused es) x
 
-  rounds-come : (es : List Equate) (fuel R : ℕ) (ks : List Known) (n : ℕ) → pendingCount ks < fuel → History (turn base σ) R ks
-      → map (λ k. k .equate) ks ≡ es → n ≡ spent R ks → RoundsCome es (rounds base σ fuel (suc R) ks n)
+  pub rounds-end : (es : List Equate) (fuel R : ℕ) (ks : List Known) (n : ℕ) → pendingCount ks < fuel → History (turn base σ) R ks
+      → map (λ k. k .equate) ks ≡ es → n ≡ spent R ks → R + pendingCount ks ≤ length es → n + triangle (pendingCount ks) ≤ triangle (length es)
+      → RoundsCome es (rounds base σ fuel (suc R) ks n)
   unfolding rounds
-  rounds-come es zero R ks n h H m s = absurd (omega arith)
-  rounds-come es (suc fuel) R ks n h H m s =
-      by (eqb (pendingCount ks) 0) refl (pass base σ (suc R) [] ks n) (pass-is (suc R) [] ks n) (rounds-come es fuel (suc R))
+  rounds-end es zero R ks n h H m s i j = absurd (omega arith)
+  rounds-end es (suc fuel) R ks n h H m s i j =
+      by (eqb (pendingCount ks) 0) refl (pass base σ (suc R) [] ks n) (pass-is (suc R) [] ks n) (rounds-end es fuel (suc R))
     where
       More : Type 0
       More = (ls : List Known) (m : ℕ) → pendingCount ls < fuel → History (turn base σ) (suc R) ls → map (λ k. k .equate) ls ≡ es
-          → m ≡ spent (suc R) ls → RoundsCome es (rounds base σ fuel (suc (suc R)) ls m)
+          → m ≡ spent (suc R) ls → suc R + pendingCount ls ≤ length es → m + triangle (pendingCount ls) ≤ triangle (length es)
+          → RoundsCome es (rounds base σ fuel (suc (suc R)) ls m)
 
       next : (x : Turns) (c : Bool) → eqb (pendingCount (x .known)) (pendingCount ks) ≡ c → (pendingCount ks ≡ 0 → ⊥)
           → Steps (turn base σ) (suc R) [] ks (x .known) → x .evaluations ≡ n + pendingCount ks → More
@@ -279,9 +277,11 @@ module _ (base : ℕ) (σ : State) where
             is = refl;
           })
       next x false q z st c more =
-          let u = eqb-false (pendingCount (x .known)) (pendingCount ks) q in
-          more (x .known) (x .evaluations) (omega (arith, u, steps-fewer (turn base σ) st)) (history-next (turn base σ) R ks (x .known) H st)
-          (steps-equates (turn base σ) st ∙ m) (omega (arith, c, s, steps-spent (turn base σ) st))
+          let fewer : pendingCount (x .known) < pendingCount ks =
+          omega (arith, eqb-false (pendingCount (x .known)) (pendingCount ks) q, steps-fewer (turn base σ) st) in
+          more (x .known) (x .evaluations) (omega arith) (history-next (turn base σ) R ks (x .known) H st)
+          (steps-equates (turn base σ) st ∙ m) (omega (arith, c, s, steps-spent (turn base σ) st)) (omega arith)
+          (omega (arith, c, triangle-more (pendingCount (x .known)) (pendingCount ks) fewer))
 
       by : (c : Bool) → eqb (pendingCount ks) 0 ≡ c → (x : Result Refusal Turns)
           → Comes (PassIs (suc R) [] ks n) (TurnRefused (map (λ k. k .equate) ks)) x → More
@@ -293,16 +293,26 @@ module _ (base : ℕ) (σ : State) where
                   | false ↦ rounds base σ fuel (suc (suc R)) (y .known) (y .evaluations)
                 ])
           ])
-      by true e x g more = record { last = R; history = H; found = eqb-true (pendingCount ks) 0 e; equates = m; evaluated = s }
+      by true e x g more =
+          record {
+            last = R;
+            history = H;
+            found = eqb-true (pendingCount ks) 0 e;
+            equates = m;
+            evaluated = s;
+            few = omega arith;
+            bound = omega arith;
+          }
       by false e (refused r) g more = by-turn (rw m at g)
       by false e (value x) g more =
           next x (eqb (pendingCount (x .known)) (pendingCount ks)) refl (eqb-false (pendingCount ks) 0 e) (rw (← g .are) at (g .steps))
           (g .evaluated) more
 
-  pub resolve-comes : (es : List Equate) → RoundsCome es (resolve base σ es)
-  resolve-comes es =
-      rounds-come es (suc (length es)) 0 (map pendingEquate es) 0 (omega (arith, pending-all es)) (history-start (turn base σ) es) (equates-all es)
-      (start-spent es)
+  pub all-end : (es : List Equate) → RoundsCome es (resolve base σ es)
+  all-end es =
+      let p = pending-all es in
+      rounds-end es (suc (length es)) 0 (map pendingEquate es) 0 (omega (arith, p)) (history-start (turn base σ) es) (equates-all es)
+      (start-spent es) (omega (arith, p)) (rw p (omega arith))
 
   -- ---- a value at the end
 

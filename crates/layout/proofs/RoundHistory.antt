@@ -1,6 +1,6 @@
 -- The rounds over any evaluator: what each equate's turns saw, told of the equates as they are at the end. An equate waited in every
 -- round before its own, and its value is what its turn gave, against the equates at the end with every later value blanked.
-use Prim.Native.Nat.{ℕ, suc, _+_, _≤_, _<_}
+use Prim.Native.Nat.{ℕ, zero, suc, _+_, _≤_, _<_}
 use mathlib.Core.Path.{_≡_, refl, sym, _∙_, ap, ap₂}
 use mathlib.Core.Logic.{_⊎_, inl, inr}
 use mathlib.Core.List.{List, [], _∷_, _++_, map, append-assoc}
@@ -142,6 +142,32 @@ shown-whole R i j (x ∷ xs) g = ap₂ _∷_ (by (x .found) refl) (shown-whole R
 
 abbrev pub given : Known → ℤ → ℕ → Known
 given k z r = record { equate = k .equate; found = some (record { value = z; round = r }) }
+
+-- at the start every equate is pending
+pub pending-all : (es : List Equate) → pendingCount (map pendingEquate es) ≡ length es
+unfolding pendingCount
+pending-all [] = refl
+pending-all (e ∷ es) = ap suc (pending-all es)
+
+pub equates-all : (es : List Equate) → map (λ k. k .equate) (map pendingEquate es) ≡ es
+equates-all [] = refl
+equates-all (e ∷ es) = ap (λ r. e ∷ r) (equates-all es)
+
+-- the sum of the numbers to n
+unfoldable pub triangle : ℕ → ℕ
+triangle zero = 0
+triangle (suc n) = suc n + triangle n
+
+triangle-grows : (m n : ℕ) → m ≤ n → triangle m ≤ triangle n
+unfolding triangle
+triangle-grows zero n h = omega arith
+triangle-grows (suc m) zero h = absurd (omega arith)
+triangle-grows (suc m) (suc n) h = omega (arith, triangle-grows m n (omega arith))
+
+pub triangle-more : (m n : ℕ) → m < n → n + triangle m ≤ triangle n
+unfolding triangle
+triangle-more m zero h = absurd (omega arith)
+triangle-more m (suc n) h = omega (arith, triangle-grows m n (omega arith))
 
 -- how often: a pending equate has been evaluated in each of R rounds, one that is found in its own and those before
 unfoldable pub spent : ℕ → List Known → ℕ
@@ -312,13 +338,15 @@ module _ (turn : List Known → Equate → Evaluated) where
 
   -- ---- the ends
 
-  -- every equate of es found, after so many evaluations
+  -- every equate of es found, in so many rounds at most as there are equates, and by no more evaluations than if each round had found one
   pub record AllFound (es : List Equate) (F : List Known) (evaluations : ℕ) : Type 0 where
     pub last : ℕ
     pub history : History last F
     pub found : pendingCount F ≡ 0
     pub equates : map (λ k. k .equate) F ≡ es
     pub evaluated : evaluations ≡ spent last F
+    pub few : last ≤ length es
+    pub bound : evaluations ≤ triangle (length es)
 
   -- a last round that found nothing, with the first pending equate at a line
   pub record Stuck (es : List Equate) (line : ℕ) : Type 0 where
