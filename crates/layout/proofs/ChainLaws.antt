@@ -18,8 +18,7 @@ use Rattle.layout.specs.State.{Equate, State}
 use Rattle.layout.specs.Stage.{isLabel}
 use Rattle.layout.specs.Rounds.{Found, Known, pendingCount, firstPending}
 use Rattle.layout.specs.Terms.{isUsed}
-use Rattle.layout.specs.Chains.{Among, first, later, nameOf, Reaches, uses, onto, Unresolved, undefined, circular, NamesFirst}
-use Rattle.layout.specs.Demands.{Chained}
+use Rattle.layout.specs.Chains.{Among, first, later, nameOf, Reaches, uses, onto, Unresolved, undefined, circular, NamesFirst, Chained}
 use Rattle.layout.specs.code.Fits.{Each}
 use Rattle.layout.proofs.StageOrder.{Rising}
 use Rattle.layout.proofs.RoundHistory.{At, here, there, at-same, of-each, Earlier, shown-whole, History, AllFound, Stuck}

@@ -19,8 +19,7 @@ use Rattle.layout.specs.Addresses.{labelAddress}
 use Rattle.layout.specs.Rounds.{Found, Known, pendingEquate, orElse, constant, asNumber, look, turn, Turns, turns, afterTurn, passOne, pass}
 use Rattle.layout.specs.Rounds.{pendingCount, unresolved, rounds}
 use Rattle.layout.specs.Layouts.{resolve}
-use Rattle.layout.specs.Chains.{Among, nameOf, Worth, ofLabel, ofEquate, areDistinct, Conditions}
-use Rattle.layout.specs.Demands.{Chained}
+use Rattle.layout.specs.Chains.{Among, nameOf, Worth, ofLabel, ofEquate, areDistinct, Conditions, Chained}
 use Rattle.layout.specs.code.Fits.{Each}
 use Rattle.layout.proofs.Each.{each-append}
 use Rattle.layout.proofs.Gives.{Comes, and-then-comes}

@@ -22,8 +22,8 @@ use Rattle.layout.specs.Addresses.{placed, ordered, labelAddress, fillOn
 use Rattle.layout.specs.Rounds.{constant, turn, Turns}
 use Rattle.layout.specs.Layouts.{ItemAt, Layout, emission, Emitted, itemAt, emit, foundEquates, refuseIf, checkBytes}
 use Rattle.layout.specs.Layouts.{resolve, layout, afterLines, layoutOf}
-use Rattle.layout.specs.Chains.{Among, NamesFirst, Conditions}
-use Rattle.layout.specs.Demands.{recordedAddress, EquateHolds, OneByOne, LabelWordHolds, BeforeRounds, Holds, Chained}
+use Rattle.layout.specs.Chains.{Among, NamesFirst, Conditions, Chained}
+use Rattle.layout.specs.Demands.{recordedAddress, EquateHolds, OneByOne, LabelWordHolds, BeforeRounds, Holds}
 use Rattle.layout.specs.code.Fits.{Fits}
 use Rattle.layout.proofs.ResultLaws.{refused-value, value-same, refused-same}
 use Rattle.layout.proofs.Gives.{Comes, and-then-comes}

@@ -17,8 +17,8 @@ use Rattle.layout.specs.State.{Equate, State}
 use Rattle.layout.specs.Stage.{isLabel}
 use Rattle.layout.specs.Layouts.{layoutOf}
 use Rattle.layout.specs.Terms.{literal, named, Atom, Term, termsFrom, termsOf, WellFormed, plusTerm, signedSum, namesIn}
-use Rattle.layout.specs.Chains.{Among, first, uses, undefined, circular, Worth, ofLabel, ofEquate, isWithin, NeverBeyond, Conditions}
-use Rattle.layout.specs.Demands.{BeforeRounds, Chained}
+use Rattle.layout.specs.Chains.{Among, first, uses, undefined, circular, Worth, ofLabel, ofEquate, isWithin, NeverBeyond, Conditions, Chained}
+use Rattle.layout.specs.Demands.{BeforeRounds}
 use Rattle.layout.proofs.ResultLaws.{some-same}
 use Rattle.layout.proofs.Computing.{computing}
 use Rattle.layout.proofs.TwelveCases.{full}

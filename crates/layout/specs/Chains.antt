@@ -44,6 +44,10 @@ pub data Unresolved (σ : State) (e : Equate) : Type 0 where
   circular : (d : Equate) → Among d (σ .rest .equates) → Reaches (σ .rest .equates) e (nameOf d) → Reaches (σ .rest .equates) d (nameOf d)
       → Unresolved σ e
 
+-- "there is such a chain"
+abbrev pub Chained : State → Type 0
+Chained σ = (e : Equate) × Among e (σ .rest .equates) × Unresolved σ e
+
 -- "names the first line whose equate starts a chain of uses that comes back to a name in it or reaches an undefined one"
 pub record NamesFirst (σ : State) (line : ℕ) : Type 0 where
   pub equate : Equate

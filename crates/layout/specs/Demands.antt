@@ -24,7 +24,7 @@ use Rattle.layout.specs.Addresses.{LabelAt, addressAt, labelAddress, fil
 use Rattle.layout.specs.Rounds.{orElse, asNumber}
 use Rattle.layout.specs.Layouts.{EquateAt, ItemAt, Layout, checkBytes, Answer}
 use Rattle.layout.specs.Terms.{Term, termsOf, signedSum, isUsed}
-use Rattle.layout.specs.Chains.{Among, nameOf, Unresolved, NamesFirst, Conditions}
+use Rattle.layout.specs.Chains.{Among, nameOf, Chained, NamesFirst, Conditions}
 use Rattle.layout.specs.Held.{heldLayout}
 
 -- ---- "the final labels and equates", as the records have them
@@ -156,10 +156,6 @@ pub record Holds (base : ℕ) (σ : State) (l : Layout) : Type 0 where
   -- "Its evaluations are the sum of the n equates' rounds, at most n(n+1)/2"
   pub evaluations : l .evaluations ≡ sumOfRounds (l .equates)
   pub few : 2 * l .evaluations ≤ length (l .equates) * suc (length (l .equates))
-
--- an equate starts such a chain
-abbrev pub Chained : State → Type 0
-Chained σ = (e : Equate) × Among e (σ .rest .equates) × Unresolved σ e
 
 -- demand 3 of an answer to a call with this text, this base and so much lent
 pub record Demanded (t : List ℕ) (base : ℕ) (k : Lent) (a : Answer) : Type 0 where
