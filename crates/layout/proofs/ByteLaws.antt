@@ -9,7 +9,7 @@ use lib.ListN.{length, take, drop, getD, set, replicate, length-append, length-d
 use lib.Arith.{mod-mul}
 use lib.Seq.{take-all, take-at, drop-at, take-suc, drop-cons, drop-drop, take-append-le, drop-append-le, drop-append-add, set-at, length-take-le, append-snoc}
 use Rattle.layout.specs.Bytes.{le, put, padded}
-use Rattle.layout.specs.code.Tables.{leValue}
+use Rattle.layout.specs.Records.{leValue}
 
 -- ---- stores
 

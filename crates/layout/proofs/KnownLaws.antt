@@ -17,11 +17,11 @@ use Rattle.numbers.specs.Ints.{in64, bits, signedOf}
 use Rattle.numbers.specs.code.Spans.{spanned}
 use Rattle.layout.specs.Bytes.{le}
 use Rattle.layout.specs.Limits.{textLimit, equateSize}
-use Rattle.layout.specs.Records.{Field, four, eight, fieldBytes}
+use Rattle.layout.specs.Records.{Field, four, eight, fieldBytes, fourAt, eightAt, equateRecordAt}
 use Rattle.layout.specs.Rounds.{Found, Known, orElse, foundValue, constant, firstPending}
 use Rattle.layout.specs.code.Fits.{Each}
 use Rattle.layout.specs.code.Index.{buckets, bucketOf, nameAt, Indexed, inserted}
-use Rattle.layout.specs.code.Tables.{fourAt, eightAt, equateRecordAt, equateNameAt, equateNames}
+use Rattle.layout.specs.code.Tables.{equateNameAt, equateNames}
 use Rattle.layout.specs.code.Names.{valueSoFar, roundSoFar, knownFields, knownName, FoundFits, MaybeFits, KnownFits, EquateTable}
 use Rattle.layout.specs.code.Resolves.{noKnown, knownAt}
 use Rattle.numbers.proofs.Bools.{and-left, and-right}

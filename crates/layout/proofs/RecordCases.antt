@@ -15,9 +15,9 @@ use Rattle.layout.specs.declared.records.ItemRecord.{ItemRecord}
 use Rattle.layout.specs.declared.records.ExprRecord.{ExprRecord}
 use Rattle.layout.specs.declared.records.LabelWordRecord.{LabelWordRecord}
 use Rattle.layout.specs.Limits.{Lent, roomOf, labelSize, equateSize, itemSize}
-use Rattle.layout.specs.Records.{fieldBytes, labelFields, equateFields, itemFields}
-use Rattle.layout.specs.code.Tables.{leValue, exprSize, labelWordSize, exprFields, labelWordFields}
-use Rattle.layout.specs.code.Tables.{labelRecordAt, equateRecordAt, itemRecordAt, exprRecordAt, labelWordRecordAt}
+use Rattle.layout.specs.Records.{fieldBytes, labelFields, equateFields, itemFields, leValue, labelRecordAt, equateRecordAt, itemRecordAt}
+use Rattle.layout.specs.code.Tables.{exprSize, labelWordSize, exprFields, labelWordFields}
+use Rattle.layout.specs.code.Tables.{exprRecordAt, labelWordRecordAt}
 use Rattle.layout.specs.Directives.{addressOf}
 use Rattle.layout.specs.Stage.{addLabelWord}
 use Rattle.layout.specs.Layouts.{layoutOf, callOf}

@@ -25,7 +25,7 @@ use Rattle.layout.specs.Limits.{textLimit, equateSize, equateLimit}
 use Rattle.layout.specs.Statements.{exprText}
 use Rattle.layout.specs.State.{Label, Equate, State}
 use Rattle.layout.specs.Stage.{isLabel}
-use Rattle.layout.specs.Records.{Field, fieldBytes, equateFields, tableOf}
+use Rattle.layout.specs.Records.{Field, fieldBytes, equateFields, tableOf, equateRecordAt}
 use Rattle.layout.specs.Addresses.{addressAt, addressIn, labelAddress}
 use Rattle.layout.specs.Expressions.{Evaluated, evaluate}
 use Rattle.layout.specs.Rounds.{Found, Known, pendingEquate, orElse, foundValue, constant, asNumber, look, isSome, turn, Turns, turns}
@@ -33,7 +33,6 @@ use Rattle.layout.specs.Rounds.{afterTurn, passOne, pass, pendingCount, 
 use Rattle.layout.specs.Layouts.{resolve}
 use Rattle.layout.specs.code.Fits.{Each}
 use Rattle.layout.specs.code.Index.{Indexed}
-use Rattle.layout.specs.code.Tables.{equateRecordAt}
 use Rattle.layout.specs.code.Stands.{labelStore, exprSoFar}
 use Rattle.layout.specs.code.Placed.{StartsAt, LabelsPlaced}
 use Rattle.layout.specs.code.Names.{knownFields, knownName, FoundFits, MaybeFits, KnownFits, EquateTable, Scope, NamesStand}
@@ -45,7 +44,7 @@ use Rattle.layout.proofs.TableLaws.{table-set}
 use Rattle.layout.proofs.IndexLaws.{by-equal}
 use Rattle.layout.proofs.TermLaws.{extends-trans}
 use Rattle.layout.proofs.KnownLaws.{known-sized, constant-append, name-start, name-len, line-back, pending-at, found-at, fits-at}
-use Rattle.layout.proofs.Ending.{pending-all, equates-all}
+use Rattle.layout.proofs.RoundHistory.{pending-all, equates-all}
 use Rattle.layout.proofs.Fields.{ValueFits, turn-fits}
 
 -- ---- a turn

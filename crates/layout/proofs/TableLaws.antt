@@ -7,8 +7,7 @@ use mathlib.Core.List.{List, [], _∷_, _++_, map, append-assoc, append-nil}
 use lib.ListN.{length, take, drop, getD, set, replicate, length-append, length-set}
 use lib.Seq.{take-at, drop-at, drop-drop, drop-append-seam}
 use Rattle.layout.specs.Bytes.{le, put, padded, together}
-use Rattle.layout.specs.Records.{Field, four, fieldBytes, tableOf}
-use Rattle.layout.specs.code.Tables.{leValue, fourAt, eightAt}
+use Rattle.layout.specs.Records.{Field, four, fieldBytes, tableOf, leValue, fourAt, eightAt}
 use Rattle.layout.proofs.ByteLaws.{put-put, put-over, length-padded, put-pad, length-le, le-value, le-back}
 
 -- ---- fields side by side

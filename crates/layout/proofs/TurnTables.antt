@@ -18,12 +18,12 @@ use Rattle.layout.specs.declared.state.Section.the-variants as section
 use Rattle.layout.specs.Bytes.{le}
 use Rattle.layout.specs.State.{Equate}
 use Rattle.layout.specs.Stage.{isLabel}
-use Rattle.layout.specs.Records.{fieldBytes}
+use Rattle.layout.specs.Records.{fieldBytes, fourAt}
 use Rattle.layout.specs.Addresses.{addressAt}
 use Rattle.layout.specs.Rounds.{Known, constant, look, isSome, turn}
 use Rattle.layout.specs.code.Places.{sectionLimit, sectionCode, placeCode}
 use Rattle.layout.specs.code.Fits.{EquateFits}
-use Rattle.layout.specs.code.Tables.{exprSize, flagOf, fourAt, exprRecordAt, equateNameAt}
+use Rattle.layout.specs.code.Tables.{exprSize, flagOf, exprRecordAt, equateNameAt}
 use Rattle.layout.specs.code.Tokens.{tokensFrom}
 use Rattle.layout.specs.code.Placed.{PlaceCoded}
 use Rattle.layout.specs.code.Names.{Scope, lookIn}

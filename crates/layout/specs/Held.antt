@@ -8,7 +8,7 @@ use Rattle.layout.specs.declared.records.ItemRecord.{ItemRecord}
 use Rattle.layout.specs.Pieces.{Piece, piece}
 use Rattle.layout.specs.Addresses.{LabelAt}
 use Rattle.layout.specs.Layouts.{EquateAt, ItemAt, Layout, Counts, Buffers}
-use Rattle.layout.specs.code.Tables.{labelRecordAt, equateRecordAt, itemRecordAt}
+use Rattle.layout.specs.Records.{labelRecordAt, equateRecordAt, itemRecordAt}
 
 -- a piece of the text t by its start and length
 abbrev pub pieceIn : List ℕ → ℕ → ℕ → Piece

@@ -1,12 +1,13 @@
--- Records: each kind's fields once, and their bytes. Document 01, "Records".
-use Prim.Native.Nat.{ℕ}
+-- Records: each kind's fields once, their bytes, and records read back from them. Document 01, "Records".
+use Prim.Native.Nat.{ℕ, _+_, _*_}
 use mathlib.Core.List.{List, [], _∷_, _++_, map}
-use lib.ListN.{length}
+use lib.ListN.{length, take, drop}
 use lib.IntN.{ℤ}
-use Rattle.numbers.specs.Ints.{bits}
+use Rattle.numbers.specs.Ints.{bits, signedOf}
 use Rattle.layout.specs.declared.records.LabelRecord.{LabelRecord}
 use Rattle.layout.specs.declared.records.EquateRecord.{EquateRecord}
 use Rattle.layout.specs.declared.records.ItemRecord.{ItemRecord}
+use Rattle.layout.specs.Limits.{labelSize, equateSize, itemSize}
 use Rattle.layout.specs.Bytes.{le, padded, together}
 use Rattle.layout.specs.Pieces.{Piece}
 
@@ -51,3 +52,49 @@ itemRecord address line kind first source =
 -- records one after the other in n bytes, and zeros after them: f gives a record's fields
 abbrev pub tableOf : {A : Type 0} → ℕ → (A → List Field) → List A → List ℕ
 tableOf n f xs = padded n (together (map (λ x. fieldBytes (f x)) xs))
+
+-- ---- read back
+
+-- the number that bytes stand for, the low byte first
+unfoldable pub leValue : List ℕ → ℕ
+leValue [] = 0
+leValue (b ∷ bs) = b + 256 * leValue bs
+
+-- the number in the four bytes at a place
+abbrev pub fourAt : List ℕ → ℕ → ℕ
+fourAt b at = leValue (take 4 (drop at b))
+
+-- the number in the eight bytes at a place
+abbrev pub eightAt : List ℕ → ℕ → ℕ
+eightAt b at = leValue (take 8 (drop at b))
+
+-- the kth record of a table
+abbrev pub labelRecordAt : List ℕ → ℕ → LabelRecord
+labelRecordAt b k =
+    record {
+      start = fourAt b (k * labelSize);
+      len = fourAt b (k * labelSize + 4);
+      address = fourAt b (k * labelSize + 8);
+      line = fourAt b (k * labelSize + 12);
+    }
+
+abbrev pub equateRecordAt : List ℕ → ℕ → EquateRecord
+equateRecordAt b k =
+    record {
+      start = fourAt b (k * equateSize);
+      len = fourAt b (k * equateSize + 4);
+      line = fourAt b (k * equateSize + 8);
+      value = signedOf 64 (eightAt b (k * equateSize + 12));
+      round = fourAt b (k * equateSize + 20);
+    }
+
+abbrev pub itemRecordAt : List ℕ → ℕ → ItemRecord
+itemRecordAt b k =
+    record {
+      address = fourAt b (k * itemSize);
+      line = fourAt b (k * itemSize + 4);
+      kind = fourAt b (k * itemSize + 8);
+      first = fourAt b (k * itemSize + 12);
+      start = fourAt b (k * itemSize + 16);
+      len = fourAt b (k * itemSize + 20);
+    }

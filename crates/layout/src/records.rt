@@ -14,8 +14,9 @@ ghost use Rattle.numbers.specs.Ints.{bits, signedOf};
 ghost use Rattle.layout.specs.Bytes.{le, put};
 ghost use Rattle.layout.specs.Limits.{labelSize, equateSize, itemSize};
 ghost use Rattle.layout.specs.Records.{fieldBytes, labelFields, equateFields, itemFields};
-ghost use Rattle.layout.specs.code.Tables.{leValue, flagOf, exprSize, labelWordSize, exprFields, labelWordFields};
-ghost use Rattle.layout.specs.code.Tables.{eightAt, labelRecordAt, equateRecordAt, itemRecordAt, exprRecordAt, labelWordRecordAt};
+ghost use Rattle.layout.specs.Records.{leValue, eightAt, labelRecordAt, equateRecordAt, itemRecordAt};
+ghost use Rattle.layout.specs.code.Tables.{flagOf, exprSize, labelWordSize, exprFields, labelWordFields};
+ghost use Rattle.layout.specs.code.Tables.{exprRecordAt, labelWordRecordAt};
 
 // A label: its name's start and length, its address and line. Before the sections' starts are known the address is the
 // code of its place.

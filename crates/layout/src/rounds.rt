@@ -19,11 +19,10 @@ ghost use lib.ListN.{length};
 ghost use lib.Dec.{eqb};
 ghost use Rattle.layout.specs.Bytes.{put};
 ghost use Rattle.layout.specs.Limits.{equateSize};
-ghost use Rattle.layout.specs.Records.{fieldBytes, equateFields};
+ghost use Rattle.layout.specs.Records.{fieldBytes, equateFields, equateRecordAt};
 ghost use Rattle.layout.specs.Rounds.{constant, isSome, firstPending, Known};
 ghost use mathlib.Core.List.{List};
 ghost use Rattle.layout.specs.code.Steps.{Some};
-ghost use Rattle.layout.specs.code.Tables.{equateRecordAt};
 ghost use Rattle.layout.specs.code.Names.{EquateTable};
 ghost use Rattle.layout.specs.code.Resolves.{equateIn, TurnReady, TurnKnown, AgainReady, AgainKnown, TurnGives, EvaluationGives, ResolveReady, Resolves};
 

@@ -1,23 +1,19 @@
--- The layout's own records, and records read back from their bytes.
+-- The layout's own records, and how names are looked up in the labels' records.
 use Prim.Native.Nat.{ℕ, zero, suc, _+_, _*_, _≤_, _<_}
 use mathlib.Core.Path.{_≡_}
 use mathlib.Core.List.{List, [], _∷_}
 use mathlib.Core.Bool.{Bool, true, false}
 use mathlib.Core.Option.{Option, none, some}
 use lib.Dec.{eqb}
-use lib.ListN.{length, take, drop}
-use Rattle.numbers.specs.Ints.{signedOf}
+use lib.ListN.{length}
 use Rattle.numbers.specs.Text.{same}
 use Rattle.numbers.specs.code.Spans.{spanned}
-use Rattle.layout.specs.declared.records.LabelRecord.{LabelRecord}
-use Rattle.layout.specs.declared.records.EquateRecord.{EquateRecord}
-use Rattle.layout.specs.declared.records.ItemRecord.{ItemRecord}
 use Rattle.layout.specs.declared.records.ExprRecord.{ExprRecord}
 use Rattle.layout.specs.declared.records.LabelWordRecord.{LabelWordRecord}
 use Rattle.layout.specs.declared.labels.Lookup.{Lookup}
 use Rattle.layout.specs.declared.labels.Lookup.the-variants as lookup
-use Rattle.layout.specs.Limits.{labelSize, equateSize, equateLimit, itemSize, labelWordLimit}
-use Rattle.layout.specs.Records.{Field, four}
+use Rattle.layout.specs.Limits.{labelSize, equateLimit, labelWordLimit}
+use Rattle.layout.specs.Records.{Field, four, fourAt, labelRecordAt, equateRecordAt}
 use Rattle.layout.specs.code.Index.{Indexed, Distinct}
 
 -- ---- an equate's expression, and a label word: 16 bytes each
@@ -47,50 +43,7 @@ labelWordFields r = four (r .at) ∷ four (r .start) ∷ four (r .len) ∷ four 
 
 -- ---- read back
 
--- the number that bytes stand for, the low byte first
-unfoldable pub leValue : List ℕ → ℕ
-leValue [] = 0
-leValue (b ∷ bs) = b + 256 * leValue bs
-
--- the number in the four bytes at a place
-abbrev pub fourAt : List ℕ → ℕ → ℕ
-fourAt b at = leValue (take 4 (drop at b))
-
--- the number in the eight bytes at a place
-abbrev pub eightAt : List ℕ → ℕ → ℕ
-eightAt b at = leValue (take 8 (drop at b))
-
 -- the kth record of a table
-abbrev pub labelRecordAt : List ℕ → ℕ → LabelRecord
-labelRecordAt b k =
-    record {
-      start = fourAt b (k * labelSize);
-      len = fourAt b (k * labelSize + 4);
-      address = fourAt b (k * labelSize + 8);
-      line = fourAt b (k * labelSize + 12);
-    }
-
-abbrev pub equateRecordAt : List ℕ → ℕ → EquateRecord
-equateRecordAt b k =
-    record {
-      start = fourAt b (k * equateSize);
-      len = fourAt b (k * equateSize + 4);
-      line = fourAt b (k * equateSize + 8);
-      value = signedOf 64 (eightAt b (k * equateSize + 12));
-      round = fourAt b (k * equateSize + 20);
-    }
-
-abbrev pub itemRecordAt : List ℕ → ℕ → ItemRecord
-itemRecordAt b k =
-    record {
-      address = fourAt b (k * itemSize);
-      line = fourAt b (k * itemSize + 4);
-      kind = fourAt b (k * itemSize + 8);
-      first = fourAt b (k * itemSize + 12);
-      start = fourAt b (k * itemSize + 16);
-      len = fourAt b (k * itemSize + 20);
-    }
-
 abbrev pub exprRecordAt : List ℕ → ℕ → ExprRecord
 exprRecordAt b k =
     record {

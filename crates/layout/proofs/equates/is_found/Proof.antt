@@ -3,7 +3,7 @@ use Prim.Native.Nat.{ℕ}
 use mathlib.Core.Path.{_≡_, refl, sym, ap, _∙_}
 use denote.Ref.{now}
 use borrow.Author.Tests.{ne-eqb}
-use Rattle.layout.specs.code.Tables.{equateRecordAt}
+use Rattle.layout.specs.Records.{equateRecordAt}
 use borrow.Author.Needs.{needs}
 use Rattle.layout.proofs.equates.is_found.Statement.{statement}
 use Rattle.layout.proofs.equates.is_found.Tie as tie

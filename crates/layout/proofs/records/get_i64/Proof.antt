@@ -7,7 +7,7 @@ use mir.Syntax.{w64}
 use mir.Val.{SFits}
 use mir.Facts.{toZ-ofZ}
 use Rattle.numbers.specs.Ints.{signedOf}
-use Rattle.layout.specs.code.Tables.{leValue}
+use Rattle.layout.specs.Records.{leValue}
 use Rattle.layout.proofs.ByteLaws.{eight-at}
 use borrow.Author.Needs.{needs}
 use Rattle.layout.proofs.records.get_i64.Statement.{statement}
