@@ -22,7 +22,7 @@ use Rattle.layout.specs.Rounds.{Found, Known, orElse, foundValue, consta
 use Rattle.layout.specs.code.Fits.{Each}
 use Rattle.layout.specs.code.Index.{buckets, bucketOf, nameAt, Indexed, inserted}
 use Rattle.layout.specs.code.Tables.{equateNameAt, equateNames}
-use Rattle.layout.specs.code.Names.{valueSoFar, roundSoFar, knownFields, knownName, FoundFits, MaybeFits, KnownFits, EquateTable}
+use Rattle.layout.specs.code.Names.{valueSoFar, roundSoFar, knownFields, knownName, FoundFits, MaybeFits, KnownFits, EquateRecords, EquateTable}
 use Rattle.layout.specs.code.Resolves.{noKnown, knownAt}
 use Rattle.numbers.proofs.Bools.{and-left, and-right}
 use Rattle.layout.proofs.Each.{each-at}
@@ -53,7 +53,7 @@ maybe-value : (o : Option Found) → MaybeFits o → in64 (valueSoFar o) ≡ tru
 maybe-value none m = refl
 maybe-value (some f) m = m .value
 
-module _ {t b ix : List ℕ} {count : ℕ} {ks : List Known} (s : EquateTable t b ix count ks) where
+module _ {t b : List ℕ} {count : ℕ} {ks : List Known} (s : EquateRecords t b count ks) where
   pub equates-lent : count * equateSize ≤ length b
   equates-lent = rw (s .counted) (table-lent knownFields equateSize known-sized b ks (s .records))
 
@@ -279,7 +279,7 @@ module _ {t b ix : List ℕ} {count : ℕ} {ks : List Known} (s : EquateTable t 
         (ap (λ (i : ℕ). orElse (constant (take (c - 1) ks) n) (entryValue ks i)) one
         ∙ sym (stays (constant (take (c - 1) ks) n) (entryValue ks found))
         ∙ ap (λ (o : Option ℤ). orElse (orElse (constant (take (c - 1) ks) n) o) (entryValue ks found))
-        (sym (found-alone (knownAt ks (c - 1)) n (each-at (KnownFits t) ks noKnown (c - 1) (s .fits) (omega (arith, w .le)) .found) h))
+        (sym (found-alone (knownAt ks (c - 1)) n (each-at (KnownFits t) ks noKnown (c - 1) (s .rows .fits) (omega (arith, w .le)) .found) h))
         ∙ ap (λ (o : Option ℤ). orElse o (entryValue ks found)) (sym taken) ∙ w .goes)
       where
         stays : (a q : Option ℤ) → orElse (orElse a (some (valueSoFar (knownAt ks (c - 1) .found)))) q ≡ orElse a (some (valueSoFar (knownAt ks (c - 1) .found)))
@@ -292,7 +292,7 @@ module _ {t b ix : List ℕ} {count : ℕ} {ks : List Known} (s : EquateTable t 
         (ap (λ (o : Option ℤ). orElse o (entryValue ks found))
         (sym (or-none (constant (take (c - 1) ks) n))
         ∙ ap (orElse (constant (take (c - 1) ks) n))
-        (sym (pending-alone (knownAt ks (c - 1)) n (each-at (KnownFits t) ks noKnown (c - 1) (s .fits) (omega (arith, w .le)) .found) h))
+        (sym (pending-alone (knownAt ks (c - 1)) n (each-at (KnownFits t) ks noKnown (c - 1) (s .rows .fits) (omega (arith, w .le)) .found) h))
         ∙ sym taken) ∙ w .goes)
 
   module _ (found c : ℕ) (z : c ≤ 0) (w : Seeking ks n found c) where
@@ -307,12 +307,12 @@ module _ {t b ix : List ℕ} {count : ℕ} {ks : List Known} (s : EquateTable t 
     pub seek-value : (found ≡ 0 → ⊥) → some (equateRecordAt b (found - 1) .value) ≡ constant ks n
     seek-value h =
         let pred : found ≡ suc (found - 1) = omega (arith, h) in
-        ap (λ (v : ℤ). some v) (value-back s (found - 1) (omega (arith, w .within, h))) ∙ sym (ap (entryValue ks) pred) ∙ seek-end
+        ap (λ (v : ℤ). some v) (value-back (s .rows) (found - 1) (omega (arith, w .within, h))) ∙ sym (ap (entryValue ks) pred) ∙ seek-end
 
   -- what the record says of round and name
   pub found-as-read : (k : ℕ) → k < length ks → (r : Bool)
       → not (eqb (equateRecordAt b k .round) 0) && same (equateNameAt t b k) n ≡ r → isFound (knownAt ks k) n ≡ r
-  found-as-read k h r e = rw (← round-back s k h, ← name-back s k h) e
+  found-as-read k h r e = rw (← round-back (s .rows) k h, ← name-back (s .rows) k h) e
 
 pub table-room : {t b ix : List ℕ} {count : ℕ} {ks : List Known} → EquateTable t b ix count ks → buckets + length ks ≤ length ix
 table-room {ks = ks} s = omega (arith, s .indexed .room, length-map ks knownName)
@@ -342,7 +342,7 @@ first-found : (k : Known) (ks : List Known) (f : Found) → k .found ≡ some f 
 unfolding firstPending
 first-found k ks f e = ap (λ (o : Option Found). elim o [ none ↦ k .equate .line | some g ↦ firstPending ks ]) e
 
-module _ {t b ix : List ℕ} {count : ℕ} {ks : List Known} (s : EquateTable t b ix count ks) (k : ℕ) where
+module _ {t b : List ℕ} {count : ℕ} {ks : List Known} (s : EquateRecords t b count ks) (k : ℕ) where
   pub pending-at : k < length ks → equateRecordAt b k .round ≡ 0 → knownAt ks k .found ≡ none
   pending-at h e = pending-is (knownAt ks k) (fits-at s k h .found) (sym (round-back s k h) ∙ e)
 

@@ -45,6 +45,7 @@ pub mod AddressLaws
 pub mod FixupLaws
 pub mod RoundSteps
 pub mod TurnTables
+pub mod SymbolLaws
 pub mod EquatesHold
 pub mod FillLaws
 pub mod ItemsHold

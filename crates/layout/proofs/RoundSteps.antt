@@ -1,5 +1,5 @@
 -- The rounds, equate by equate: what a turn leaves, what is found and what waits, and how the code's two loops carry the rounds on.
-use Prim.Native.Nat.{ℕ, zero, suc, _+_, _*_, _≤_, _<_}
+use Prim.Native.Nat.{ℕ, zero, suc, _+_, _-_, _*_, _^_, _≤_, _<_}
 use native.Mathlib.Numerals.{add-one}
 use native.Mathlib.Omega.{arith}
 use mathlib.Core.Path.{_≡_, refl, sym, ap, ap₂, subst, _∙_}
@@ -225,13 +225,15 @@ table-found t b b′ ix count done k rest f s fits sized e =
     let now : Known = record { equate = k .equate; found = some f } in
     let ks : List Known = done ++ k ∷ rest in
     let within : length done < length ks = omega (arith, length-append done (k ∷ rest)) in
-    let fit : KnownFits t k = rw (at-seam done k rest) at (each-at (KnownFits t) ks noKnown (length done) (s .fits) within) in
+    let fit : KnownFits t k = rw (at-seam done k rest) at (each-at (KnownFits t) ks noKnown (length done) (s .rows .fits) within) in
     record {
-      text = s .text;
-      counted = s .counted ∙ sym (length-seam done k now rest);
-      few = rw (length-seam done k now rest) (s .few);
-      fits = each-put (KnownFits t) done k now rest (s .fits) (record { equate = fit .equate; found = fits });
-      records = rw (← put-seam done k now rest) (table-set knownFields equateSize known-sized b b′ ks (s .records) (length done) now within sized e);
+      rows = record {
+        text = s .rows .text;
+        counted = s .rows .counted ∙ sym (length-seam done k now rest);
+        few = rw (length-seam done k now rest) (s .rows .few);
+        fits = each-put (KnownFits t) done k now rest (s .rows .fits) (record { equate = fit .equate; found = fits });
+        records = rw (← put-seam done k now rest) (table-set knownFields equateSize known-sized b b′ ks (s .rows .records) (length done) now within sized e);
+      };
       indexed = rw (map-put knownName done k now rest refl) (s .indexed);
     }
 
@@ -364,7 +366,7 @@ module _ (f : Frame) (round before : ℕ) (ks done : List Known) (k : Known) (re
     }
       where
         within : length done < length w
-        within = omega (arith, m .room, m .roomy, m .table .counted, size)
+        within = omega (arith, m .room, m .roomy, m .table .rows .counted, size)
 
         here-waits : (i : ℕ) → i ≡ length done → Waited (f .base) (f .state) ks w′ i
         here-waits i z none-yet =
@@ -462,7 +464,7 @@ pub walk-here : (f : Frame) (round before : ℕ) (e w : List ℕ) (evaluations p
 walk-here f round before e w evaluations pending k m h = by (m .todo) (m .walk)
   where
     by : (todo : List Known) → Walk f round before (m .all) (m .done) todo e w evaluations pending → Here f round before e w evaluations pending k
-    by [] v = absurd (omega (arith, v .table .counted, ap length (v .split), length-append (m .done) [], m .place, h))
+    by [] v = absurd (omega (arith, v .table .rows .counted, ap length (v .split), length-append (m .done) [], m .place, h))
     by (x ∷ rest) v =
         record {
           all = m .all;
@@ -471,7 +473,7 @@ walk-here f round before e w evaluations pending k m h = by (m .todo) (m .walk)
           rest = rest;
           place = m .place;
           is = ap (knownAt (m .all)) (m .place) ∙ here-at f round before (m .all) (m .done) x rest e w evaluations pending v;
-          within = omega (arith, v .table .counted, h);
+          within = omega (arith, v .table .rows .counted, h);
           walk = v;
         }
 
@@ -509,11 +511,11 @@ module _ (f : Frame) (round before : ℕ) (e w : List ℕ) (evaluations pending 
 
   -- so there is a round for each equate at the most
   pub few-rounds : m .one .found ≡ none → round ≤ equateLimit
-  few-rounds p = omega (arith, some-pending p, m .walk .fell, m .walk .early, m .walk .table .counted, m .walk .table .few)
+  few-rounds p = omega (arith, some-pending p, m .walk .fell, m .walk .early, m .walk .table .rows .counted, m .walk .table .rows .few)
 
-  pub few-evaluations : m .one .found ≡ none → evaluations < 0xFFFFFFFF
+  pub few-evaluations : m .one .found ≡ none → evaluations < 2 ^ 64 - 1
   few-evaluations p =
-      omega (arith, few-rounds p, m .walk .counted, m .within, m .place, m .walk .table .few)
+      omega (arith, few-rounds p, m .walk .counted, m .within, m .place, m .walk .table .rows .few)
 
   pub next-found : m .one .found ≡ none → (z : ℤ) → value (some z) ≡ turn (f .base) (f .state) (m .all) (m .one .equate) → (e′ : List ℕ) → length e′ ≡ length e
       → e′ ≡ put (k * equateSize) (fieldBytes (knownFields (record { equate = m .one .equate; found = some (record { value = z; round = round }) }))) e
@@ -602,7 +604,7 @@ module _ (f : Frame) (round before : ℕ) (e w : List ℕ) (evaluations pending 
     where
       by : (todo : List Known) → m .all ≡ m .done ++ todo → todo ≡ []
       by [] s = refl
-      by (x ∷ todo) s = absurd (omega (arith, m .walk .table .counted, ap length s, length-append (m .done) (x ∷ todo), m .place, end))
+      by (x ∷ todo) s = absurd (omega (arith, m .walk .table .rows .counted, ap length s, length-append (m .done) (x ∷ todo), m .place, end))
 
   all-done : m .done ≡ m .all
   all-done = sym (m .walk .split ∙ ap (λ (l : List Known). m .done ++ l) none-left ∙ append-nil (m .done))
@@ -629,13 +631,13 @@ module _ (f : Frame) (round before : ℕ) (e w : List ℕ) (evaluations pending 
         equates = m .walk .equates;
         pends = m .walk .pends;
         early = omega (arith, m .walk .early, m .walk .fell, n);
-        counted = omega (arith, m .walk .counted, m .place, m .walk .table .counted, m .walk .table .few, ap length all-done);
+        counted = omega (arith, m .walk .counted, m .place, m .walk .table .rows .counted, m .walk .table .rows .few, ap length all-done);
         enough = omega (arith, m .walk .enough, m .walk .fell, n);
         goes = sym (next-by (f .base) (f .state) (m .walk .fuel) (round + 1) before (turns (m .all) evaluations) false (ne-eqb (pendingCount (m .all)) before (λ z. n (m .walk .pends ∙ z)))) ∙ after;
         kept = m .walk .kept;
         room = m .walk .room;
         roomy = m .walk .roomy;
-        waited = λ r i h. m .walk .waited i (omega (arith, m .walk .table .counted, ap length all-done, h));
+        waited = λ r i h. m .walk .waited i (omega (arith, m .walk .table .rows .counted, ap length all-done, h));
       }
 
 -- ---- before the first round
@@ -667,7 +669,7 @@ module _ {t l n : List ℕ} {c : ℕ} {starts : Starts} {e x : List ℕ} {m : �
   round-first =
       let es = σ .rest .equates in
       let all = pending-all es in
-      let size : m ≡ length es = s .stand .names .equates .counted ∙ length-map es pendingEquate in
+      let size : m ≡ length es = s .stand .names .equates .rows .counted ∙ length-map es pendingEquate in
       record {
         known = map pendingEquate es;
         fuel = suc (length es);
@@ -713,30 +715,30 @@ module _ (f : Frame) {l n : List ℕ} {c : ℕ} {starts : Starts} {exprs : List 
 
   -- pending or found, by the record's round
   pub pending-here : equateRecordAt e k .round ≡ 0 → m .one .found ≡ none
-  pending-here z = ap (λ (x : Known). x .found) (sym (m .is)) ∙ pending-at (m .walk .table) k (m .within) z
+  pending-here z = ap (λ (x : Known). x .found) (sym (m .is)) ∙ pending-at (m .walk .table .rows) k (m .within) z
 
   pub found-here : (equateRecordAt e k .round ≡ 0 → ⊥) → (g : Found) × (m .one .found ≡ some g)
   found-here z =
-      let o = found-at (m .walk .table) k (m .within) z in
+      let o = found-at (m .walk .table .rows) k (m .within) z in
       (o .0, ap (λ (x : Known). x .found) (sym (m .is)) ∙ o .1)
 
   pub line-here : equateRecordAt e k .line ≡ m .one .equate .line
-  line-here = line-back (m .walk .table) k (m .within) ∙ ap (λ (x : Known). x .equate .line) (m .is)
+  line-here = line-back (m .walk .table .rows) k (m .within) ∙ ap (λ (x : Known). x .equate .line) (m .is)
 
   -- the record that a found equate gets
   pub record-here : (z : ℤ) → equateFields (record { start = equateRecordAt e k .start; len = equateRecordAt e k .len; line = equateRecordAt e k .line; value = z; round = round })
       ≡ knownFields (record { equate = m .one .equate; found = some (record { value = z; round = round }) })
   record-here z =
-      let start : equateRecordAt e k .start ≡ m .one .equate .name .at = name-start (m .walk .table) k (m .within) ∙ ap (λ (x : Known). x .equate .name .at) (m .is) in
+      let start : equateRecordAt e k .start ≡ m .one .equate .name .at = name-start (m .walk .table .rows) k (m .within) ∙ ap (λ (x : Known). x .equate .name .at) (m .is) in
       let len : equateRecordAt e k .len ≡ length (m .one .equate .name .bytes) =
-      name-len (m .walk .table) k (m .within) ∙ ap (λ (x : Known). length (x .equate .name .bytes)) (m .is) in
+      name-len (m .walk .table .rows) k (m .within) ∙ ap (λ (x : Known). length (x .equate .name .bytes)) (m .is) in
       rw (start, len, line-here) refl
 
   -- a place where it waits lies within the text
   pub waits-small : (at : ℕ) → Blocked scopeHere (m .one .equate) at → at ≤ textLimit
   waits-small at b =
-      let fits = subst (λ (x : Known). KnownFits (f .text) x) (m .is) (fits-at (m .walk .table) k (m .within)) in
-      omega (arith, b .within, fits .equate .source .within, m .walk .table .text)
+      let fits = subst (λ (x : Known). KnownFits (f .text) x) (m .is) (fits-at (m .walk .table .rows) k (m .within)) in
+      omega (arith, b .within, fits .equate .source .within, m .walk .table .rows .text)
 
 -- ---- after the loops
 

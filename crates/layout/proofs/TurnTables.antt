@@ -56,16 +56,16 @@ code-small section.Bss o h = omega arith
 module _ {t l n : List ℕ} {c : ℕ} {starts : Starts} {e x : List ℕ} {m : ℕ} {exprs : List ℕ} {s : Scope}
     (d : TurnStand t l n c starts e x m exprs s) (k : ℕ) (below : k < m) where
   within : k < length (s .known)
-  within = omega (arith, d .names .equates .counted)
+  within = omega (arith, d .names .equates .rows .counted)
 
   abbrev one : Equate
   one = equateIn s k
 
   fits : EquateFits t one
-  fits = fits-at (d .names .equates) k within .equate
+  fits = fits-at (d .names .equates .rows) k within .equate
 
   short : length t ≤ 65536
-  short = d .names .equates .text
+  short = d .names .equates .rows .text
 
   pub expr-lent : k * exprSize + exprSize ≤ length exprs
   expr-lent = omega (arith, table-lent knownExpr exprSize expr-sized exprs (s .known) (d .records), within)
@@ -97,7 +97,7 @@ module _ {t l n : List ℕ} {c : ℕ} {starts : Starts} {e x : List ℕ} {m : �
   -- what the tests by the name that was read say of the equate's own
   module _ (name : List ℕ) (q : name ≡ equateNameAt t e k) (r b : Bool) where
     own-name : name ≡ one .name .bytes
-    own-name = q ∙ name-back (d .names .equates) k within
+    own-name = q ∙ name-back (d .names .equates .rows) k within
 
     pub label-told : r ≡ isLabel name (s .state .labels) → r ≡ b → isLabel (one .name .bytes) (s .state .labels) ≡ b
     label-told h g = ap (λ (x : List ℕ). isLabel x (s .state .labels)) (sym own-name) ∙ sym h ∙ g

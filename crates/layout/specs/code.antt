@@ -16,3 +16,4 @@ pub mod Placed
 pub mod Names
 pub mod Terms
 pub mod Resolves
+pub mod Symbols

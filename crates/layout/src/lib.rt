@@ -20,5 +20,6 @@ pub mod rounds;
 mod scan;
 pub mod stage;
 pub mod state;
+pub mod symbols;
 mod tokens;
 mod writers;

@@ -14,7 +14,7 @@ use crate::records::put_equate;
 use numbers::text::Span;
 use numbers::text::span_bytes;
 ghost use mathlib.Core.Path.{_≡_};
-ghost use Prim.Native.Nat.{ℕ, _+_, _*_, _≤_, _<_};
+ghost use Prim.Native.Nat.{ℕ, _+_, _-_, _*_, _^_, _≤_, _<_};
 ghost use lib.ListN.{length};
 ghost use lib.Dec.{eqb};
 ghost use Rattle.layout.specs.Bytes.{put};
@@ -29,12 +29,12 @@ ghost use Rattle.layout.specs.code.Resolves.{equateIn, TurnReady, TurnKn
 // An equate's turn: what it comes to, and the evaluations so far.
 pub struct Evaluation {
     pub answer: Evaluated,
-    pub evaluations: u32,
+    pub evaluations: usize,
 }
 
 // Every equate is found, by so many evaluations; or a refusal's number and line.
 pub enum Resolved {
-    Through(u32),
+    Through(usize),
     Refused(u8, u32),
 }
 
@@ -161,9 +161,9 @@ fn evaluate(
     k: usize,
     at: usize,
     round: u32,
-    evaluations: u32,
+    evaluations: usize,
 ) -> Evaluation
-    requires { ⌜ AgainReady text labels «label_index» «label_count» starts equates «equate_index» «equate_count» exprs round k at × (k < «equate_count») × (evaluations < 0xFFFFFFFF) ⌝ }
+    requires { ⌜ AgainReady text labels «label_index» «label_count» starts equates «equate_index» «equate_count» exprs round k at × (k < «equate_count») × (evaluations < 2 ^ 64 - 1) ⌝ }
     ensures { λ r. ⌜ AgainKnown text labels «label_index» «label_count» starts equates «equate_index» «equate_count» exprs round k at
         (λ names. EvaluationGives names (equateIn names k) evaluations r) ⌝ }
 {
@@ -236,13 +236,13 @@ fn first_pending(equates: &[u8], count: usize) -> u32
     requires { ⌜ count * equateSize ≤ length (now equates) ⌝ }
     ensures { λ r. ⌜ ((t ix : List ℕ) (ks : List Known) → EquateTable t (now (equates .entry)) ix count ks → r ≡ firstPending ks) ⌝ }
 {
-    let mut k = 0;
-    while k < count {
-        let equate = get_equate(equates, k);
+    let mut i = 0;
+    while i < count {
+        let equate = get_equate(equates, i);
         if equate.round == 0 {
             return equate.line;
         }
-        k += 1;
+        i += 1;
     }
     0
 }
@@ -262,7 +262,7 @@ pub fn resolve(
     requires { ⌜ ResolveReady text labels «label_index» «label_count» starts equates «equate_index» count exprs waits ⌝ }
     ensures { λ r. ⌜ Resolves text labels «label_index» «label_count» starts equates «equate_index» count exprs waits r ⌝ }
 {
-    let mut evaluations: u32 = 0;
+    let mut evaluations = 0;
     let mut pending = count;
     let mut round: u32 = 0;
     let mut refused = false;

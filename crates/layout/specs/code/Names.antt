@@ -57,13 +57,17 @@ pub record KnownFits (t : List ℕ) (k : Known) : Type 0 where
   pub equate : EquateFits t (k .equate)
   pub found : MaybeFits (k .found)
 
--- a buffer that holds the records of so many equates of a text, and the index of their names
-pub record EquateTable (t b ix : List ℕ) (count : ℕ) (ks : List Known) : Type 0 where
+-- a buffer that holds the records of so many equates of a text, and zeros after them
+pub record EquateRecords (t b : List ℕ) (count : ℕ) (ks : List Known) : Type 0 where
   pub text : length t ≤ textLimit
   pub counted : count ≡ length ks
   pub few : length ks ≤ equateLimit
   pub fits : Each (KnownFits t) ks
   pub records : b ≡ tableOf (length b) knownFields ks
+
+-- and the index of their names
+pub record EquateTable (t b ix : List ℕ) (count : ℕ) (ks : List Known) : Type 0 where
+  pub rows : EquateRecords t b count ks
   pub indexed : Indexed (map knownName ks) ix
 
 -- ---- equates and labels

@@ -46,12 +46,12 @@ loop-holds c = λ ks t. seek-first t _ _ (c .before .bucket-of .ensures)
 below : (d : tie.In-loop Inv-loop μ-loop) → d .before .loop .entry - 1 < d .before .before .before .before .before .before .before .before .args .count
 below d =
     let s = d .before .before .before .before .before .before .before .before in
-    omega (arith, d .before .loop .inv (s .pre .it) (s .pre .stands) .le, s .pre .stands .counted, d .loop-test .taken)
+    omega (arith, d .before .loop .inv (s .pre .it) (s .pre .stands) .le, s .pre .stands .rows .counted, d .loop-test .taken)
 
 is-found-requires : tie.Need-is-found-requires Inv-loop μ-loop
 is-found-requires c κs =
     let s = c .before .before .before .before .before .before .before .before in
-    omega (arith, below c, equates-lent (s .pre .stands))
+    omega (arith, below c, equates-lent (s .pre .stands .rows))
 
 add-entry : tie.Need-add-entry Inv-loop μ-loop
 add-entry c = omega (arith, below (c .before .before))
@@ -60,13 +60,13 @@ mul-entry-2 : tie.Need-mul-entry-2 Inv-loop μ-loop
 mul-entry-2 c =
     let d = c .before .before in
     let s = d .before .before .before .before .before .before .before .before in
-    omega (arith, below d, table-room (s .pre .stands), s .pre .stands .counted, s .pre .stands .few)
+    omega (arith, below d, table-room (s .pre .stands), s .pre .stands .rows .counted, s .pre .stands .rows .few)
 
 shared-slice-read-entry-2 : tie.Need-shared-slice-read-entry-2 Inv-loop μ-loop
 shared-slice-read-entry-2 c =
     let d = c .before .before .before in
     let s = d .before .before .before .before .before .before .before .before in
-    omega (arith, below d, table-room (s .pre .stands), s .pre .stands .counted)
+    omega (arith, below d, table-room (s .pre .stands), s .pre .stands .rows .counted)
 
 cast-entry-2 : tie.Need-cast-entry-2 Inv-loop μ-loop
 cast-entry-2 c = omega (arith, c .shared-slice-known6 .given (buckets + (c .before .before .before .before .loop .entry - 1)))
@@ -103,7 +103,7 @@ get-equate-requires : tie.Need-get-equate-requires Inv-loop μ-loop
 get-equate-requires c κs =
     let l = c .before .before .loop in
     let s = c .before .before .before .before .before .before .before .before .before in
-    omega (arith, l .inv (s .pre .it) (s .pre .stands) .within, s .pre .stands .counted, c .if2 .left, equates-lent (s .pre .stands))
+    omega (arith, l .inv (s .pre .it) (s .pre .stands) .within, s .pre .stands .rows .counted, c .if2 .left, equates-lent (s .pre .stands .rows))
 
 returns-2 : tie.Need-returns-2 Inv-loop μ-loop
 returns-2 c =

@@ -55,7 +55,7 @@ add-round : tie.Need-add-round Inv-loop μ-loop Inv-rounds μ-rounds
 add-round c =
     let s = c .before .before .before .before .before .before .before .before .before in
     let r = c .before .rounds .inv .1 (s .pre .base) (s .pre .state) (s .pre .stands) in
-    omega (arith, r .early, r .table .counted, r .table .few)
+    omega (arith, r .early, r .table .rows .counted, r .table .rows .few)
 
 loop-holds : tie.Need-loop-holds Inv-loop μ-loop Inv-rounds μ-rounds
 loop-holds c = (refl, λ base σ bytes places s m. m)
@@ -74,7 +74,7 @@ here d =
 is-pending-requires : tie.Need-is-pending-requires Inv-loop μ-loop Inv-rounds μ-rounds
 is-pending-requires c κs =
     let h = here (c .before) in
-    omega (arith, equates-lent (h .walk .table), c .before .loop-test .taken)
+    omega (arith, equates-lent (h .walk .table .rows), c .before .loop-test .taken)
 
 -- it is pending
 pending : (c : tie.Then1 Inv-loop μ-loop Inv-rounds μ-rounds) → here (c .before .before .before) .one .found ≡ none
@@ -83,7 +83,7 @@ pending c = pending-here _ (standing (c .before .before .before .before .before 
 mul-evaluate : tie.Need-mul-evaluate Inv-loop μ-loop Inv-rounds μ-rounds
 mul-evaluate c =
     let h = here (c .before .before .before .before) in
-    omega (arith, h .walk .table .counted, h .walk .table .few, c .before .before .before .before .loop-test .taken)
+    omega (arith, h .walk .table .rows .counted, h .walk .table .rows .few, c .before .before .before .before .loop-test .taken)
 
 slice-read-evaluate : tie.Need-slice-read-evaluate Inv-loop μ-loop Inv-rounds μ-rounds
 slice-read-evaluate c =
@@ -102,7 +102,7 @@ evaluate-requires c κs =
 put-found-requires : tie.Need-put-found-requires Inv-loop μ-loop Inv-rounds μ-rounds
 put-found-requires c κs =
     let h = here (c .before .before .before .before .before .before .before .before .before .before) in
-    omega (arith, equates-lent (h .walk .table), c .before .before .before .before .before .before .before .before .before .before .loop-test .taken)
+    omega (arith, equates-lent (h .walk .table .rows), c .before .before .before .before .before .before .before .before .before .before .loop-test .taken)
 
 sub-pending : tie.Need-sub-pending Inv-loop μ-loop Inv-rounds μ-rounds
 sub-pending c = some-pending _ _ _ _ _ _ _ _ (here (c .before .before .before .before .before .before .before .before .before .before .before .before .before)) (pending (c .before .before .before .before .before .before .before .before .before .before))
@@ -119,7 +119,7 @@ cast-waits c =
 mul-waits : tie.Need-mul-waits Inv-loop μ-loop Inv-rounds μ-rounds
 mul-waits c =
     let h = here (c .before .before .before .before .before .before .before .before .before) in
-    omega (arith, h .walk .table .counted, h .walk .table .few, c .before .before .before .before .before .before .before .before .before .loop-test .taken)
+    omega (arith, h .walk .table .rows .counted, h .walk .table .rows .few, c .before .before .before .before .before .before .before .before .before .loop-test .taken)
 
 slice-write-waits : tie.Need-slice-write-waits Inv-loop μ-loop Inv-rounds μ-rounds
 slice-write-waits c =
@@ -129,7 +129,7 @@ slice-write-waits c =
 get-equate-requires : tie.Need-get-equate-requires Inv-loop μ-loop Inv-rounds μ-rounds
 get-equate-requires c κs =
     let h = here (c .before .before .before .before .before .before .before .before .before .before) in
-    omega (arith, equates-lent (h .walk .table), c .before .before .before .before .before .before .before .before .before .before .loop-test .taken)
+    omega (arith, equates-lent (h .walk .table .rows), c .before .before .before .before .before .before .before .before .before .before .loop-test .taken)
 
 loop-again : tie.Need-loop-again Inv-loop μ-loop Inv-rounds μ-rounds
 loop-again c =
@@ -174,7 +174,7 @@ first-pending-requires : tie.Need-first-pending-requires Inv-loop μ-loop Inv-ro
 first-pending-requires c κs =
     let d = c .before .before in
     let s = d .before .before .before .before .before .before .before .before .before .before .before in
-    equates-lent (ended d (s .pre .base) (s .pre .state) (s .pre .stands) .walk .table)
+    equates-lent (ended d (s .pre .base) (s .pre .state) (s .pre .stands) .walk .table .rows)
 
 rounds-less : tie.Need-rounds-less Inv-loop μ-loop Inv-rounds μ-rounds
 rounds-less c =

@@ -12,7 +12,7 @@ use Rattle.layout.proofs.rounds.turn.Tie as tie
 equate-name-requires : tie.Need-equate-name-requires
 equate-name-requires c κs =
     let s = c .before .before .before .before .before .before in
-    omega (arith, equates-lent (s .pre .0 .stands .names .equates), s .pre .1)
+    omega (arith, equates-lent (s .pre .0 .stands .names .equates .rows), s .pre .1)
 
 is-label-requires : tie.Need-is-label-requires
 is-label-requires c κs = placed-indexed (c .before .before .before .before .before .before .before .pre .0 .stands .names .labels)

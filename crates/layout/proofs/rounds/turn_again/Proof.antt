@@ -10,7 +10,7 @@ use Rattle.layout.proofs.rounds.turn_again.Tie as tie
 equate-name-requires : tie.Need-equate-name-requires
 equate-name-requires c κs =
     let s = c .before .before .before .before .before .before in
-    omega (arith, equates-lent (s .pre .0 .stands .stand .names .equates), s .pre .1)
+    omega (arith, equates-lent (s .pre .0 .stands .stand .names .equates .rows), s .pre .1)
 
 is-constant-requires : tie.Need-is-constant-requires
 is-constant-requires c κs =
