@@ -6,12 +6,13 @@ use mathlib.Core.Bool.{Bool, true, false, cond, not}
 use mathlib.Core.Option.{Option, none, some}
 use native.Mathlib.Nat.{zero-add, zero-mul, suc-mul}
 use native.Mathlib.Omega.{arith}
-use lib.Dec.{ltb, eqb}
+use lib.Dec.{ltb, leb, eqb}
 use lib.IntN.{ℤ, pos, negsuc, _+ℤ_}
 use lib.ListN.{length, length-append, length-replicate, length-map}
-use borrow.Author.Tests.{ltb-false, leb-true}
+use borrow.Author.Tests.{lt-ltb, le-ltb, ltb-false, leb-true}
 use Rattle.numbers.specs.Results.{Result, value, refused, andThen}
-use Rattle.numbers.specs.Ints.{in64, fit64, signTimes, bits}
+use Rattle.numbers.specs.Ints.{in64, fit64, signTimes, bits, signedOf}
+use Rattle.numbers.proofs.Bools.{and-left}
 use Rattle.numbers.proofs.Readings.{fit-in64}
 use Rattle.layout.specs.declared.state.Section.{Section}
 use Rattle.layout.specs.declared.state.Section.the-variants as section
@@ -421,6 +422,15 @@ FieldsFit fs = Each (λ f. f .number < 256 ^ f .width) fs
 pub bits-below : (z : ℤ) → in64 z ≡ true → bits 64 z < 256 ^ 8
 bits-below (pos n) e = let h : n ≤ 2 ^ 63 - 1 = leb-true n _ e in omega arith
 bits-below (negsuc n) e = omega arith
+
+-- and is read back from its bits
+pub signed-back : (z : ℤ) → in64 z ≡ true → signedOf 64 (bits 64 z) ≡ z
+signed-back (pos n) e =
+    let h = leb-true n 9223372036854775807 e in
+    rw (lt-ltb n (2 ^ 63) (omega arith)) refl
+signed-back (negsuc n) e =
+    let h = leb-true n 9223372036854775807 (and-left (leb n 9223372036854775807) true e) in
+    rw (le-ltb (18446744073709551616 - suc n) (2 ^ 63) (omega arith)) (ap negsuc (omega arith))
 
 abbrev pub equateRow : EquateAt → List Field
 equateRow x = equateFields (equateRecord (x .name) (x .line) (x .value) (x .round))

@@ -1,19 +1,16 @@
 -- What a caller holds after an accepted call is the layout: so demand 3 holds of the answer's counts and buffers, and of every answer.
-use Prim.Native.Nat.{ℕ, zero, suc, _+_, _-_, _*_, _^_, _<_}
+use Prim.Native.Nat.{ℕ, zero, suc, _+_, _*_, _^_, _<_}
 use mathlib.Core.Path.{_≡_, refl, sym, _∙_, ap, ap₂, subst}
 use mathlib.Core.Logic.{_↔_}
 use mathlib.Core.List.{List, [], _∷_, _++_, map, append-assoc}
 use mathlib.Core.Bool.{true}
 use native.Mathlib.Nat.{suc-mul, mod-eq-of-lt}
 use native.Mathlib.Omega.{arith}
-use lib.Dec.{leb}
-use lib.IntN.{ℤ, pos, negsuc}
+use lib.IntN.{ℤ}
 use lib.ListN.{length, take, drop}
 use lib.Seq.{take-at, drop-at, drop-drop}
-use borrow.Author.Tests.{lt-ltb, le-ltb, leb-true}
 use Rattle.numbers.specs.Results.{Result, value, refused}
 use Rattle.numbers.specs.Ints.{in64, bits, signedOf}
-use Rattle.numbers.proofs.Bools.{and-left}
 use Rattle.layout.specs.Bytes.{le, together}
 use Rattle.layout.specs.Pieces.{Piece, piece}
 use Rattle.layout.specs.Refusals.{Refusal}
@@ -29,7 +26,7 @@ use Rattle.layout.specs.code.Fits.{Each, Inside}
 use Rattle.layout.specs.code.Orders.{labelRow, LabelAtFits}
 use Rattle.layout.proofs.ResultLaws.{value-refused, refused-same}
 use Rattle.layout.proofs.ByteLaws.{le-value, le-back}
-use Rattle.layout.proofs.Fields.{EquateAtFits, ItemAtFits, equateRow, itemRow, LayoutFits, layout-fits}
+use Rattle.layout.proofs.Fields.{bits-below, signed-back, EquateAtFits, ItemAtFits, equateRow, itemRow, LayoutFits, layout-fits}
 use Rattle.layout.proofs.DemandLaws.{refusal-numbered, unresolved-line, unresolved-exactly, accepted-holds}
 
 -- ---- records one after the other
@@ -66,18 +63,6 @@ field-behind : (w size k at : ℕ) (b : List ℕ) → leValue (take w (drop (suc
 field-behind w size k at b = behind-at w size (k * size + at) (suc k * size + at) b (rw (suc-mul k size) (omega arith))
 
 -- ---- numbers and pieces
-
-signed-back : (z : ℤ) → in64 z ≡ true → signedOf 64 (bits 64 z) ≡ z
-signed-back (pos n) e =
-    let h = leb-true n 9223372036854775807 e in
-    rw (lt-ltb n (2 ^ 63) (omega arith)) refl
-signed-back (negsuc n) e =
-    let h = leb-true n 9223372036854775807 (and-left (leb n 9223372036854775807) true e) in
-    rw (le-ltb (18446744073709551616 - suc n) (2 ^ 63) (omega arith)) (ap negsuc (omega arith))
-
-bits-below : (z : ℤ) → in64 z ≡ true → bits 64 z < 2 ^ 64
-bits-below (pos n) e = let h = leb-true n 9223372036854775807 e in omega arith
-bits-below (negsuc n) e = omega arith
 
 value-back : (z : ℤ) → in64 z ≡ true → signedOf 64 (leValue (le 8 (bits 64 z))) ≡ z
 value-back z e = ap (signedOf 64) (le-value 8 (bits 64 z) ∙ mod-eq-of-lt (bits-below z e)) ∙ signed-back z e

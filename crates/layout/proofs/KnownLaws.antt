@@ -7,37 +7,27 @@ use mathlib.Core.Path.{_≡_, refl, sym, ap, ap₂, subst, _∙_}
 use mathlib.Core.List.{List, [], _∷_, _++_, map}
 use mathlib.Core.Bool.{Bool, true, false, _&&_, not, false≢true}
 use mathlib.Core.Option.{Option, none, some}
-use lib.Dec.{eqb, leb}
-use lib.IntN.{ℤ, pos, negsuc}
-use lib.ListN.{length, take, drop, getD, length-map, drop-of-length-le}
+use lib.Dec.{eqb}
+use lib.IntN.{ℤ}
+use lib.ListN.{length, take, drop, getD, length-map, drop-of-length-le, List·getD-map}
 use lib.Seq.{take-suc, take-all, drop-cons}
-use borrow.Author.Tests.{lt-ltb, le-ltb, leb-true, ne-eqb}
+use borrow.Author.Tests.{ne-eqb}
 use Rattle.numbers.specs.Text.{same}
 use Rattle.numbers.specs.Ints.{in64, bits, signedOf}
 use Rattle.numbers.specs.code.Spans.{spanned}
 use Rattle.layout.specs.Bytes.{le}
-use Rattle.layout.specs.Limits.{textLimit, equateSize}
-use Rattle.layout.specs.Records.{Field, four, eight, fieldBytes, fourAt, eightAt, equateRecordAt}
+use Rattle.layout.specs.Limits.{equateSize}
+use Rattle.layout.specs.Records.{four, eight, fieldBytes, equateRecordAt}
 use Rattle.layout.specs.Rounds.{Found, Known, orElse, foundValue, constant, firstPending}
-use Rattle.layout.specs.code.Fits.{Each}
 use Rattle.layout.specs.code.Index.{buckets, bucketOf, nameAt, Indexed, inserted}
 use Rattle.layout.specs.code.Tables.{equateNameAt, equateNames}
-use Rattle.layout.specs.code.Names.{valueSoFar, roundSoFar, knownFields, knownName, FoundFits, MaybeFits, KnownFits, EquateRecords, EquateTable}
+use Rattle.layout.specs.code.Names.{valueSoFar, roundSoFar, knownFields, knownName, MaybeFits, KnownFits, EquateRecords, EquateTable}
 use Rattle.layout.specs.code.Resolves.{noKnown, knownAt}
 use Rattle.numbers.proofs.Bools.{and-left, and-right}
 use Rattle.layout.proofs.Each.{each-at}
-use Rattle.layout.proofs.Fields.{bits-below}
+use Rattle.layout.proofs.Fields.{bits-below, signed-back}
 use Rattle.layout.proofs.TableLaws.{read-four, read-eight, table-lent}
 use Rattle.layout.proofs.IndexLaws.{bucket-below, Last, last-is, other-bucket, indexed-more}
-
--- ---- a value is read back from its bits
-
-pub signed-bits : (z : ℤ) → in64 z ≡ true → signedOf 64 (bits 64 z) ≡ z
-signed-bits (pos n) h = rw (lt-ltb n (2 ^ 63) (omega (arith, leb-true n (2 ^ 63 - 1) h))) refl
-signed-bits (negsuc n) h =
-    let small : n ≤ 2 ^ 63 - 1 = leb-true n (2 ^ 63 - 1) (and-left (leb n (2 ^ 63 - 1)) true h) in
-    let back : 2 ^ 64 - 1 - (2 ^ 64 - suc n) ≡ n = omega arith in
-    rw (le-ltb (2 ^ 64 - suc n) (2 ^ 63) (omega arith), back) refl
 
 -- ---- the records
 
@@ -89,7 +79,7 @@ module _ {t b : List ℕ} {count : ℕ} {ks : List Known} (s : EquateRecords t b
         (read-eight knownFields equateSize known-sized b ks noKnown j (j * equateSize + 12) (bits 64 (valueSoFar (k .found)))
         (four (k .equate .name .at) ∷ four (length (knownName k)) ∷ four (k .equate .line) ∷ []) _ (s .records) h refl refl
         (bits-below (valueSoFar (k .found)) fits))
-        ∙ signed-bits (valueSoFar (k .found)) fits
+        ∙ signed-back (valueSoFar (k .found)) fits
 
     pub round-back : equateRecordAt b j .round ≡ roundSoFar (knownAt ks j .found)
     unfolding fieldBytes le
@@ -146,11 +136,6 @@ index-more t b ix k bucket e q h =
 or-none : (o : Option ℤ) → orElse o none ≡ o
 or-none none = refl
 or-none (some z) = refl
-
-map-at : {A B : Type 0} (f : A → B) (xs : List A) (d : A) (e : B) (j : ℕ) → j < length xs → getD (map f xs) j e ≡ f (getD xs j d)
-map-at f [] d e j h = absurd (omega arith)
-map-at f (x ∷ xs) d e zero h = refl
-map-at f (x ∷ xs) d e (suc j) h = map-at f xs d e j (omega arith)
 
 pub constant-append : (xs ys : List Known) (n : List ℕ) → constant (xs ++ ys) n ≡ orElse (constant xs n) (constant ys n)
 unfolding constant
@@ -238,10 +223,7 @@ module _ {t b ix : List ℕ} {count : ℕ} {ks : List Known} (s : EquateTable t 
       }
     where
       other : (i : ℕ) → c ≤ i → i < m → same (knownName (knownAt ks i)) n ≡ false
-      other i a l′ = rw (← mapped-at i (omega arith)) (other-bucket (nameAt (map knownName ks) i) n (p .none-on i a l′))
-        where
-          mapped-at : (j : ℕ) → j < length ks → nameAt (map knownName ks) j ≡ knownName (knownAt ks j)
-          mapped-at j q = map-at knownName ks noKnown [] j q
+      other i a l′ = rw (← List·getD-map knownName ks i noKnown) (other-bucket (nameAt (map knownName ks) i) n (p .none-on i a l′))
 
       skipped : constant (take m ks) n ≡ constant (take c ks) n
       skipped =

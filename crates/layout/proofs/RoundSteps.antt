@@ -4,7 +4,7 @@ use native.Mathlib.Numerals.{add-one}
 use native.Mathlib.Omega.{arith}
 use mathlib.Core.Path.{_≡_, refl, sym, ap, ap₂, subst, _∙_}
 use mathlib.Core.List.{List, [], _∷_, _++_, map, append-assoc, append-nil}
-use mathlib.Core.Bool.{Bool, true, false, _||_, false≢true}
+use mathlib.Core.Bool.{Bool, true, false, false≢true}
 use mathlib.Core.Option.{Option, none, some}
 use lib.Dec.{eqb}
 use lib.IntN.{ℤ, pos}
@@ -18,33 +18,32 @@ use Rattle.numbers.proofs.Bools.{none-some}
 use Rattle.numbers.proofs.Prefixes.{same-equal}
 use Rattle.layout.specs.declared.addresses.Starts.{Starts}
 use Rattle.layout.specs.declared.expr.Evaluated as answer
-use Rattle.layout.specs.declared.rounds.Resolved.the-variants as resolved
 use Rattle.layout.specs.Refusals.{Refusal, atLine}
 use Rattle.layout.specs.Bytes.{put, padded, together}
 use Rattle.layout.specs.Limits.{textLimit, equateSize, equateLimit}
 use Rattle.layout.specs.Statements.{exprText}
-use Rattle.layout.specs.State.{Label, Equate, State}
+use Rattle.layout.specs.State.{Equate, State}
 use Rattle.layout.specs.Stage.{isLabel}
-use Rattle.layout.specs.Records.{Field, fieldBytes, equateFields, tableOf, equateRecordAt}
-use Rattle.layout.specs.Addresses.{addressAt, addressIn, labelAddress}
+use Rattle.layout.specs.Records.{fieldBytes, equateFields, tableOf, equateRecordAt}
+use Rattle.layout.specs.Addresses.{addressAt, labelAddress}
 use Rattle.layout.specs.Expressions.{Evaluated, evaluate}
 use Rattle.layout.specs.Rounds.{Found, Known, pendingEquate, orElse, foundValue, constant, asNumber, look, isSome, turn, Turns, turns}
 use Rattle.layout.specs.Rounds.{afterTurn, passOne, pass, pendingCount, firstPending, unresolved, rounds}
 use Rattle.layout.specs.Layouts.{resolve}
 use Rattle.layout.specs.code.Fits.{Each}
-use Rattle.layout.specs.code.Index.{Indexed}
 use Rattle.layout.specs.code.Stands.{labelStore, exprSoFar}
 use Rattle.layout.specs.code.Placed.{StartsAt, LabelsPlaced}
-use Rattle.layout.specs.code.Names.{knownFields, knownName, FoundFits, MaybeFits, KnownFits, EquateTable, Scope, NamesStand}
+use Rattle.layout.specs.code.Names.{knownFields, knownName, FoundFits, KnownFits, EquateTable, Scope}
 use Rattle.layout.specs.code.Terms.{Extends}
 use Rattle.layout.specs.code.Resolves.{TurnAgain, TurnGives}
-use Rattle.layout.specs.code.Resolves.{knownExpr, TurnStand, noKnown, knownAt, equateIn, Blocked, HasWaited, ResolveAgrees, RoundsStand, pendingScope}
+use Rattle.layout.specs.code.Resolves.{knownExpr, TurnStand, noKnown, knownAt, equateIn, Blocked, RoundsStand}
 use Rattle.layout.proofs.Each.{each-at}
 use Rattle.layout.proofs.TableLaws.{table-set}
 use Rattle.layout.proofs.IndexLaws.{by-equal}
 use Rattle.layout.proofs.TermLaws.{extends-trans}
 use Rattle.layout.proofs.KnownLaws.{known-sized, constant-append, name-start, name-len, line-back, pending-at, found-at, fits-at}
 use Rattle.layout.proofs.RoundHistory.{pending-all, equates-all}
+use Rattle.layout.proofs.ResolveLaws.{no-address}
 use Rattle.layout.proofs.Fields.{ValueFits, turn-fits}
 
 -- ---- a turn
@@ -89,17 +88,6 @@ module _ (base : ℕ) (σ : State) (ks : List Known) (e : Equate) where
     turn-evaluates c = rw (turn, l, c) refl
 
 -- ---- what an equate that is found changes
-
--- no label of a name, no address
-no-address : (base : ℕ) (σ : State) (ls : List Label) (n : List ℕ) → isLabel n ls ≡ false → addressIn base σ ls n ≡ none
-unfolding isLabel addressIn
-no-address base σ [] n e = refl
-no-address base σ (l ∷ ls) n e = by (same (l .name .bytes) n) refl e (no-address base σ ls n)
-  where
-    by : (c : Bool) → same (l .name .bytes) n ≡ c → c || isLabel n ls ≡ false → (isLabel n ls ≡ false → addressIn base σ ls n ≡ none)
-        → _≡_ {A = Option ℕ} (elim c [ true ↦ some (addressAt base σ (l .place)) | false ↦ addressIn base σ ls n ]) none
-    by true q e later = absurd (false≢true (sym e))
-    by false q e later = later e
 
 no-some : (o : Option ℤ) → isSome o ≡ false → o ≡ none
 no-some none h = refl

@@ -1,11 +1,11 @@
 -- Names looked up in a scope: an equate's value, else a label's address; and what a look-up keeps as equates are found.
 use Prim.Native.Nat.{ℕ}
-use mathlib.Core.Path.{_≡_, refl, sym, ap, _∙_}
+use mathlib.Core.Path.{_≡_, refl}
 use mathlib.Core.List.{List}
-use mathlib.Core.Option.{Option, none, some}
+use mathlib.Core.Option.{none, some}
 use lib.IntN.{ℤ, pos}
 use Rattle.layout.specs.Addresses.{labelAddress}
-use Rattle.layout.specs.Rounds.{orElse, asNumber, constant}
+use Rattle.layout.specs.Rounds.{constant}
 use Rattle.layout.specs.code.Names.{Scope, lookIn}
 
 module _ (names : Scope) (n : List ℕ) where

@@ -1,5 +1,5 @@
 -- Symbols resolved: from what the lines left to what filling label words and the rounds ask, and their answers together.
-use Prim.Native.Nat.{ℕ, _≤_}
+use Prim.Native.Nat.{ℕ}
 use native.Mathlib.Omega.{arith}
 use mathlib.Core.Path.{_≡_, refl, sym, ap, _∙_}
 use mathlib.Core.List.{List, [], _∷_, map}
@@ -18,12 +18,12 @@ use Rattle.layout.specs.Addresses.{labelAddress, fill}
 use Rattle.layout.specs.Layouts.{resolve}
 use Rattle.layout.specs.Records.{Field, fieldBytes, tableOf}
 use Rattle.layout.specs.Rounds.{Known, pendingEquate, Turns}
-use Rattle.layout.specs.code.Fits.{Each, EquateFits}
+use Rattle.layout.specs.code.Fits.{EquateFits}
 use Rattle.layout.specs.code.Index.{Indexed}
 use Rattle.layout.specs.code.Tables.{equateNames}
 use Rattle.layout.specs.code.Stands.{labelStore, equateSoFar, exprSoFar}
 use Rattle.layout.specs.code.Placed.{StartsAt, LabelsPlaced, Unplaced, Unfilled, FillAgrees}
-use Rattle.layout.specs.code.Names.{knownFields, knownName, KnownFits, EquateRecords, EquateTable}
+use Rattle.layout.specs.code.Names.{knownFields, KnownFits, EquateRecords}
 use Rattle.layout.specs.code.Resolves.{knownExpr, RoundsStand, ResolveAgrees}
 use Rattle.layout.specs.code.Symbols.{SymbolsStand, symbolsOf, SymbolsAgree}
 use Rattle.layout.proofs.Each.{each-map}

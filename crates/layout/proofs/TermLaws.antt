@@ -1,10 +1,10 @@
 -- Expressions term by term: the signs, the term, what joins the next one; and the sum from a place on is the whole text's, whatever other
 -- names get values.
-use Prim.Native.Nat.{ℕ, _+_, _≤_, _<_}
+use Prim.Native.Nat.{ℕ, _≤_}
 use native.Mathlib.Omega.{arith}
 use mathlib.Core.Path.{_≡_, refl, sym, ap, _∙_}
 use mathlib.Core.List.{List, [], _∷_}
-use mathlib.Core.Bool.{Bool, true, false, not, cond, false≢true}
+use mathlib.Core.Bool.{Bool, true, false, not, false≢true}
 use mathlib.Core.Option.{Option, none, some}
 use lib.ListN.{length}
 use lib.IntN.{ℤ, pos, _+ℤ_}
@@ -17,13 +17,11 @@ use Rattle.layout.specs.declared.tokens.Token as code
 use Rattle.layout.specs.declared.tokens.Token.the-variants as kind
 use Rattle.layout.specs.declared.expr.Evaluated as answer
 use Rattle.layout.specs.declared.expr.Evaluated.the-variants.{Value, Waits, Refused}
-use Rattle.layout.specs.declared.expr.Term.the-variants as term-kind
-use Rattle.layout.specs.declared.expr.Joint.the-variants as joint-kind
-use Rattle.layout.specs.Expressions.{Token, plus, minus, dot, number, name, unreadable, Evaluated, positive, negative, Wanted, term, joint}
-use Rattle.layout.specs.Expressions.{tokens, anyUnreadable, onFit, addTerm, onName, sumFrom, evaluate}
+use Rattle.layout.specs.Expressions.{Token, plus, minus, dot, number, name, unreadable, Evaluated, positive, negative, term, joint}
+use Rattle.layout.specs.Expressions.{tokens, anyUnreadable, addTerm, onName, sumFrom, evaluate}
 use Rattle.layout.specs.code.Tokens.{tokenOf, spacedIn, tokensFrom, TokenLeads}
 use Rattle.layout.specs.code.Terms.{ownSign, unsigned, IsOperand, TermStands, NoTerm, termValue, AddsTerm, NoJoint, JointStands}
-use Rattle.layout.specs.code.Terms.{isUnknown, operandWaits, termWaits, Extends, WaitsAt, Waiting, Evaluates, sumOf, evaluationOf}
+use Rattle.layout.specs.code.Terms.{isUnknown, operandWaits, termWaits, Extends, Waiting, Evaluates, sumOf, evaluationOf}
 
 -- ---- signs
 

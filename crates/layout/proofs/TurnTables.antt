@@ -4,11 +4,9 @@ use native.Mathlib.Omega.{arith}
 use mathlib.Core.Path.{_≡_, refl, sym, ap, ap₂, subst, _∙_}
 use mathlib.Core.List.{List}
 use mathlib.Core.Bool.{Bool, true, false}
-use mathlib.Core.Option.{Option}
 use lib.Dec.{eqb}
-use lib.IntN.{ℤ, pos}
+use lib.IntN.{pos}
 use lib.ListN.{length}
-use Rattle.numbers.specs.Results.{value, refused}
 use Rattle.numbers.specs.code.Spans.{spanned}
 use Rattle.layout.specs.declared.addresses.Starts.{Starts}
 use Rattle.layout.specs.declared.expr.Evaluated as answer
@@ -20,7 +18,7 @@ use Rattle.layout.specs.State.{Equate}
 use Rattle.layout.specs.Stage.{isLabel}
 use Rattle.layout.specs.Records.{fieldBytes, fourAt}
 use Rattle.layout.specs.Addresses.{addressAt}
-use Rattle.layout.specs.Rounds.{Known, constant, look, isSome, turn}
+use Rattle.layout.specs.Rounds.{Known, constant, look, isSome}
 use Rattle.layout.specs.code.Places.{sectionLimit, sectionCode, placeCode}
 use Rattle.layout.specs.code.Fits.{EquateFits}
 use Rattle.layout.specs.code.Tables.{exprSize, flagOf, exprRecordAt, equateNameAt}
@@ -28,7 +26,7 @@ use Rattle.layout.specs.code.Tokens.{tokensFrom}
 use Rattle.layout.specs.code.Placed.{PlaceCoded}
 use Rattle.layout.specs.code.Names.{Scope, lookIn}
 use Rattle.layout.specs.code.Terms.{termWaits, Evaluates, evaluationOf}
-use Rattle.layout.specs.code.Resolves.{knownExpr, TurnStand, noKnown, knownAt, equateIn, Blocked, BlockedBy, TurnGives}
+use Rattle.layout.specs.code.Resolves.{knownExpr, TurnStand, noKnown, equateIn, Blocked, BlockedBy, TurnGives}
 use Rattle.layout.proofs.TableLaws.{read-row, table-lent}
 use Rattle.layout.proofs.KnownLaws.{fits-at, name-back}
 use Rattle.layout.proofs.TermLaws.{extends-self}

@@ -17,7 +17,7 @@ use Rattle.layout.specs.declared.expr.Term.{Term}
 use Rattle.layout.specs.declared.expr.Term.the-variants as term-kind
 use Rattle.layout.specs.declared.expr.Joint.{Joint}
 use Rattle.layout.specs.declared.expr.Joint.the-variants as joint-kind
-use Rattle.layout.specs.Expressions.{Token, plus, minus, dot, number, name, unreadable, Evaluated, positive, term, joint, onFit, addTerm, sumFrom, evaluate}
+use Rattle.layout.specs.Expressions.{Token, plus, minus, dot, number, name, unreadable, Evaluated, positive, term, onFit, addTerm, sumFrom, evaluate}
 use Rattle.layout.specs.code.Tokens.{tokenOf, TokenWithin, tokensFrom, spacedIn}
 
 -- ---- a term

@@ -2,7 +2,7 @@
 use Prim.Native.Nat.{ℕ, _-_, _≤_}
 use mathlib.Core.Path.{_≡_, refl, ap, subst, _∙_}
 use native.Mathlib.Omega.{arith}
-use lib.ListN.{length, set, length-set}
+use lib.ListN.{length}
 use denote.Ref.{now}
 use Rattle.layout.specs.code.Index.{Indexed, bucketOf}
 use Rattle.layout.specs.code.Tables.{equateNames}

@@ -1,5 +1,5 @@
 -- `expr::name_value`: an equate's value, or a label's address.
-use mathlib.Core.Path.{refl, sym, ap, _∙_}
+use mathlib.Core.Path.{sym, ap, _∙_}
 use mathlib.Core.Option.{some}
 use mir.Syntax.{w32, w64}
 use mir.Val.{Fits, SFits}

@@ -1,5 +1,4 @@
 -- `expr::operator_at`: by the token that stands there.
-use mathlib.Core.Path.{refl, _∙_}
 use denote.Ref.{now}
 use Rattle.layout.specs.code.Tokens.{TokenLeads}
 use Rattle.layout.proofs.TermLaws.{joint-plus, joint-minus, joint-other}

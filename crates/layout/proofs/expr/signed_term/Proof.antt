@@ -1,6 +1,5 @@
 -- `expr::signed_term`: along the signs, what is left makes the same sign, and the same term stands behind it.
 use Prim.Native.Nat.{_-_}
-use mathlib.Core.Path.{refl, sym, _∙_}
 use native.Mathlib.Omega.{arith}
 use lib.ListN.{length}
 use denote.Ref.{now}

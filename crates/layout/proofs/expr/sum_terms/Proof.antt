@@ -1,6 +1,6 @@
 -- `expr::sum_terms`: what is summed so far, carried on from here, is the whole text's sum, whatever other names get values.
-use Prim.Native.Nat.{ℕ, _-_, _<_, _≤_}
-use mathlib.Core.Path.{_≡_, refl, sym, ap, _∙_}
+use Prim.Native.Nat.{_-_}
+use mathlib.Core.Path.{_≡_, sym, ap, _∙_}
 use mathlib.Core.Option.{some}
 use native.Mathlib.Omega.{arith}
 use denote.Ref.{now}
@@ -10,10 +10,9 @@ use mir.Syntax.{w64}
 use mir.Val.{SFits, toZ}
 use mir.Facts.{toZ-ofZ}
 use Rattle.numbers.specs.declared.ints.Checked.the-variants.{Fits}
-use Rattle.layout.specs.Expressions.{plus, minus}
 use Rattle.layout.specs.code.Tokens.{tokenOf}
 use Rattle.layout.specs.code.Names.{valueOf, Scope, lookIn, NamesStand}
-use Rattle.layout.specs.code.Terms.{TermStands, termValue, AddsTerm, JointStands}
+use Rattle.layout.specs.code.Terms.{TermStands, termValue, AddsTerm}
 use Rattle.layout.proofs.TermLaws.{Summing, sum-first, sum-missing, sum-waits, sum-beyond, sum-plus, sum-minus, sum-end, sum-malformed}
 use borrow.Author.Needs.{needs}
 use Rattle.layout.proofs.expr.sum_terms.Statement.{statement}

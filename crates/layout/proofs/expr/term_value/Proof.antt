@@ -1,15 +1,11 @@
 -- `expr::term_value`: by the token.
-use mathlib.Core.Path.{refl, sym, ap, _∙_}
-use mathlib.Core.Option.{some, none}
+use mathlib.Core.Path.{refl, ap, _∙_}
+use mathlib.Core.Option.{some}
 use native.Mathlib.Omega.{arith}
-use denote.Ref.{now}
-use lib.IntN.{pos}
 use mir.Syntax.{w32, w64}
 use mir.Val.{Fits, SFits}
 use mir.Facts.{toZ-ofZ, toZ-pos}
-use Rattle.layout.specs.code.Tokens.{tokenOf}
 use Rattle.layout.specs.code.Names.{lookIn}
-use Rattle.layout.specs.code.Terms.{termValue}
 use borrow.Author.Needs.{needs}
 use Rattle.layout.proofs.expr.term_value.Statement.{statement}
 use Rattle.layout.proofs.expr.term_value.Tie as tie

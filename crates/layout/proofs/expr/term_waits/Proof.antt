@@ -1,7 +1,7 @@
 -- `expr::term_waits`: has the term's operand a value?
-use mathlib.Core.Path.{refl, sym, ap, _∙_}
+use mathlib.Core.Path.{sym, ap, _∙_}
 use denote.Ref.{now}
-use Rattle.layout.specs.code.Names.{valueOf, lookIn}
+use Rattle.layout.specs.code.Names.{valueOf}
 use Rattle.layout.specs.code.Terms.{TermStands}
 use Rattle.layout.proofs.TermLaws.{waits-missing, waits-valued}
 use borrow.Author.Needs.{needs}

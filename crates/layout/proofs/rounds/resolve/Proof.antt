@@ -1,12 +1,12 @@
 -- `rounds::resolve`: what the rounds give from here on is what they give of all equates.
-use Prim.Native.Nat.{ℕ, suc, _+_, _-_, _*_, _<_}
-use mathlib.Core.Path.{_≡_, refl, sym, ap, subst, _∙_}
-use mathlib.Core.Bool.{Bool, true, false}
+use Prim.Native.Nat.{ℕ, _+_, _-_, _*_}
+use mathlib.Core.Path.{_≡_, refl, sym, ap, _∙_}
+use mathlib.Core.Bool.{false}
 use mathlib.Core.List.{List}
 use mathlib.Core.Logic.{⊎-elim}
 use mathlib.Core.Option.{none}
 use native.Mathlib.Omega.{arith}
-use lib.ListN.{length, set}
+use lib.ListN.{length}
 use denote.Ref.{now}
 use mir.Syntax.{w64}
 use mir.Val.{SFits}
@@ -16,12 +16,11 @@ use Rattle.layout.specs.Bytes.{put}
 use Rattle.layout.specs.Limits.{equateSize}
 use Rattle.layout.specs.Records.{Field, fieldBytes}
 use Rattle.layout.specs.State.{State}
-use Rattle.layout.specs.Layouts.{resolve}
 use Rattle.layout.specs.code.Terms.{evaluatedOf}
 use Rattle.layout.specs.code.Resolves.{RoundsStand}
 use Rattle.layout.proofs.KnownLaws.{equates-lent}
-use Rattle.layout.proofs.RoundSteps.{frameOf, Standing, standing, Walking, Rounding, Here, walk-here, round-first, round-begins, round-done, round-next, round-stuck}
-use Rattle.layout.proofs.RoundSteps.{next-kept, next-waits, next-found, next-refused, some-pending, few-rounds, few-evaluations}
+use Rattle.layout.proofs.RoundSteps.{frameOf, Standing, standing, Walking, Rounding, Here, walk-here, round-first, round-begins, round-next, round-stuck}
+use Rattle.layout.proofs.RoundSteps.{next-kept, next-waits, next-found, next-refused, some-pending, few-evaluations}
 use Rattle.layout.proofs.RoundSteps.{again-here, gave-here, pending-here, found-here, line-here, record-here, waits-small, Over, over-done, over-stopped, refusal-at}
 use borrow.Author.Needs.{needs}
 use Rattle.layout.proofs.rounds.resolve.Statement.{statement}

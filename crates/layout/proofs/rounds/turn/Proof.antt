@@ -1,7 +1,6 @@
 -- `rounds::turn`: 14, 15, then the expression's evaluation.
-use mathlib.Core.Path.{ap, _∙_}
+use mathlib.Core.Path.{ap}
 use native.Mathlib.Omega.{arith}
-use Rattle.layout.specs.code.Tables.{exprRecordAt}
 use Rattle.layout.proofs.AddressLaws.{placed-indexed}
 use Rattle.layout.proofs.KnownLaws.{equates-lent}
 use Rattle.layout.proofs.TurnTables.{expr-lent, expr-coded, expr-address, label-told, value-told, evaluated-told, gives-label, gives-known, gives-evaluated}

@@ -1,5 +1,5 @@
 -- `rounds::turn_again`: 15, or the term that it waits at, or its whole turn.
-use mathlib.Core.Path.{ap, _∙_}
+use mathlib.Core.Path.{ap}
 use native.Mathlib.Omega.{arith}
 use Rattle.layout.proofs.KnownLaws.{equates-lent}
 use Rattle.layout.proofs.TurnTables.{expr-lent, value-told, waits-told, again-known, again-waits}
