@@ -46,6 +46,7 @@ pub mod FixupLaws
 pub mod RoundSteps
 pub mod TurnTables
 pub mod SymbolLaws
+pub mod CheckLaws
 pub mod EquatesHold
 pub mod FillLaws
 pub mod ItemsHold

@@ -17,3 +17,4 @@ pub mod Names
 pub mod Terms
 pub mod Resolves
 pub mod Symbols
+pub mod Checks

@@ -1,5 +1,6 @@
 // The layout: from a source to words, data, labels, equates and items.
 pub mod addresses;
+pub mod assembler;
 mod bss;
 mod data;
 mod directives;

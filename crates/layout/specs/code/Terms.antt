@@ -116,11 +116,11 @@ evaluatedOf (Value z) = value (some z)
 evaluatedOf (Waits at) = value none
 evaluatedOf (Refused n) = refused n
 
--- has the term that tokens begin with a name without a value?
 abbrev pub isUnknown : Option ℤ → Bool
 isUnknown none = true
 isUnknown (some z) = false
 
+-- is the operand that tokens begin with a name without a value? And the one behind their signs?
 abbrev pub operandWaits : (List ℕ → Option ℤ) → List Token → Bool
 operandWaits look [] = false
 operandWaits look (plus ∷ ts) = false
