@@ -7,7 +7,6 @@ use crate::fixups::fill_label_words;
 use crate::rounds::Resolved;
 use crate::rounds::resolve;
 use crate::state::Counters;
-ghost use mathlib.Core.Path.{_≡_};
 ghost use Rattle.layout.specs.code.Symbols.{SymbolsReady, SymbolsResolve};
 
 // Every label gets its address and every label word its label's; then the rounds find the equates' values.
