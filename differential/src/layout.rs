@@ -6,9 +6,11 @@
 
 use std::collections::{BTreeMap, BTreeSet};
 use std::panic::{self, AssertUnwindSafe};
+use std::sync::atomic::{AtomicBool, Ordering};
 use std::sync::Mutex;
 
 use crate::cases::escape;
+use crate::equates::{is_name_char, label_addresses, resolve, Found, Labels, Resolved};
 use crate::falcon::asm::assembler::assemble;
 use crate::falcon::asm::errors::AsmError;
 use crate::falcon::asm::program::Program;
@@ -25,6 +27,9 @@ pub enum Answer {
     Out(&'static str),
 }
 
+/// Why a source is left out whose sums go beyond 64 signed bits.
+const ADDED_24: &str = "added 24 (panic)";
+
 /// How often each answer came, by a short name for it.
 pub type Counts = BTreeMap<String, usize>;
 
@@ -36,7 +41,7 @@ pub fn all_cases() -> (String, Counts) {
     silence_panics();
     for (text, base) in sources::built(&sources::BUILDERS) {
         let answer = ask(&text, base);
-        *counts.entry(name_of(&answer)).or_default() += 1;
+        count(&mut counts, &text, base, &answer);
         if let Some(fields) = fields(&answer) {
             file.push_str(&format!("{}\t{base}\t{fields}\n", escape(&text)));
         }
@@ -44,15 +49,29 @@ pub fn all_cases() -> (String, Counts) {
     (file, counts)
 }
 
+/// Counts an answer, and the equates of an accepted source: those whose values
+/// the reference confirmed, and those that it cannot be asked for.
+fn count(counts: &mut Counts, text: &str, base: u32, answer: &Answer) {
+    *counts.entry(name_of(answer)).or_default() += 1;
+    let Answer::Laid(_) = answer else {
+        return;
+    };
+    if let Resolved::Through(found, _) = resolve(text, base) {
+        let asked = found.iter().filter(|found| is_term(&found.name)).count();
+        *counts.entry("equates: confirmed".into()).or_default() += asked;
+        *counts.entry("equates: not asked".into()).or_default() += found.len() - asked;
+    }
+}
+
 /// Of each builder's sources that got one answer, one in so many is in the
-/// list for the line stage.
+/// list for the stages.
 const ONE_IN: usize = 8;
 
-/// The same for refusals that come later: the line stage only goes through.
+/// The same for refusals that come later: the stages only go through.
 const ONE_LATER_IN: usize = 40;
 
-/// The list for the line stage: a selection of the sources, the given texts
-/// behind them, and the counts of what is in it.
+/// The list for the stages: a selection of the sources; the long chains and the
+/// given texts; the sources with the added 24; and the counts of what is in it.
 pub fn stage_cases(texts: &[String]) -> (String, Counts) {
     let mut file = String::new();
     let mut counts = Counts::new();
@@ -65,14 +84,34 @@ pub fn stage_cases(texts: &[String]) -> (String, Counts) {
     let whole = sources::built(&sources::WHOLE).into_iter();
     chosen.extend(whole.map(|(text, base)| (text.len(), text, base)));
     let chosen = chosen.into_iter().map(|(_, text, base)| (text, base));
-    let texts = texts.iter().map(|text| (text.clone(), 0));
+    let texts = sources::long_chains().into_iter().chain(texts.to_vec());
+    let texts = texts.map(|text| (text, 0));
     for (text, base) in chosen.chain(texts) {
         let answer = ask(&text, base);
-        *counts.entry(name_of(&answer)).or_default() += 1;
-        let fields = fields(&answer).expect("an answer that is compared");
+        count(&mut counts, &text, base, &answer);
+        let fields = fields(&answer);
+        let fields = fields.unwrap_or_else(|| panic!("{text:?}: {}", name_of(&answer)));
         file.push_str(&format!("{}\t{base}\t{fields}\n", escape(&text)));
     }
+    for (text, base) in sources::built(&[sources::BEYOND]) {
+        *counts.entry("added 24".into()).or_default() += 1;
+        let line = line_of_24(&text, base);
+        file.push_str(&format!("{}\t{base}\tadded\t24\t{line}\n", escape(&text)));
+    }
     (file, counts)
+}
+
+/// The line of the added 24, which is the model's: the reference panics.
+fn line_of_24(text: &str, base: u32) -> usize {
+    let answer = ask(text, base);
+    assert!(
+        matches!(answer, Answer::Out(ADDED_24)),
+        "{text:?}: no panic"
+    );
+    match resolve(text, base) {
+        Resolved::Refused(24, line) => line,
+        _ => panic!("{text:?}: not 24"),
+    }
 }
 
 /// The first of a builder's sources for each answer, and then one in so many.
@@ -83,7 +122,7 @@ fn stage_sources(builder: sources::Builder) -> Vec<(usize, String, u32)> {
         let answer = ask(&text, base);
         let one_in = match answer {
             Answer::Out(_) => continue,
-            Answer::Refused(number, _) if number > LAST_OF_LINES => ONE_LATER_IN,
+            Answer::Refused(number, _) if number > LAST_OF_ROUNDS => ONE_LATER_IN,
             _ => ONE_IN,
         };
         let count = counts.entry(name_of(&answer)).or_default();
@@ -134,18 +173,31 @@ fn name_of(answer: &Answer) -> String {
 /// The file of the last panic.
 static PANICKED_IN: Mutex<String> = Mutex::new(String::new());
 
-/// A panic writes nothing; only the file where it came about is kept.
+/// Whether the reference is being asked.
+static ASKING: AtomicBool = AtomicBool::new(false);
+
+/// A panic of the reference writes nothing; only the file where it came about
+/// is kept.
 fn silence_panics() {
     panic::set_hook(Box::new(|panic| {
-        if let (Some(place), Ok(mut file)) = (panic.location(), PANICKED_IN.lock()) {
+        if !ASKING.load(Ordering::Relaxed) {
+            eprintln!("{panic}");
+        } else if let (Some(place), Ok(mut file)) = (panic.location(), PANICKED_IN.lock()) {
             *file = place.file().to_string();
         }
     }));
 }
 
-/// Puts one source to the reference. Of the state's refusals those are looked
-/// for that a source as small as ours can get: 40, and 42 and 43 at its end.
+/// Puts one source to the reference, and holds the model to its answer.
 pub fn ask(text: &str, base: u32) -> Answer {
+    let answer = ask_reference(text, base);
+    check_model(text, base, &answer);
+    answer
+}
+
+/// Of the state's refusals those are looked for that a source as small as
+/// ours can get: 40, and 42 and 43 at its end.
+fn ask_reference(text: &str, base: u32) -> Answer {
     if base > 0xFF00_0000 {
         return Answer::Out("added 40");
     }
@@ -155,8 +207,11 @@ pub fn ask(text: &str, base: u32) -> Answer {
     if !text.is_ascii() {
         return Answer::Out("added 1");
     }
-    match panic::catch_unwind(AssertUnwindSafe(|| assemble(text, base))) {
-        Ok(Ok(program)) => laid(text, &program),
+    ASKING.store(true, Ordering::Relaxed);
+    let assembled = panic::catch_unwind(AssertUnwindSafe(|| assemble(text, base)));
+    ASKING.store(false, Ordering::Relaxed);
+    match assembled {
+        Ok(Ok(program)) => laid(text, base, &program),
         Ok(Err(error)) => refused(text, &error),
         Err(_) => panicked(text),
     }
@@ -173,8 +228,78 @@ fn panicked(text: &str) -> Answer {
     } else if in_pseudos {
         Answer::Out("panic: la address from 0x7FFFF800 to 0x7FFFFFFF")
     } else {
-        Answer::Out("added 24 (panic)")
+        Answer::Out(ADDED_24)
     }
+}
+
+// ---------- the model of the equates ----------
+
+/// The model must say the same: a refusal of the rounds, 24 for a panic in a
+/// sum, or that all equates have values.
+fn check_model(text: &str, base: u32, answer: &Answer) {
+    let agrees = match answer {
+        Answer::Laid(_) | Answer::Refused(18..=20, _) => {
+            matches!(resolve(text, base), Resolved::Through(..))
+        }
+        Answer::Refused(number @ 14..=17, line) => {
+            matches!(resolve(text, base), Resolved::Refused(n, l) if (n, l) == (*number, *line))
+        }
+        Answer::Out(ADDED_24) => matches!(resolve(text, base), Resolved::Refused(24, _)),
+        _ => true,
+    };
+    assert!(agrees, "the model differs for {text:?}");
+}
+
+/// The model's labels must have the reference's addresses.
+fn check_labels(text: &str, base: u32, program: &Program) {
+    let labels = program.labels.iter();
+    let labels = labels.flat_map(|(address, names)| names.iter().map(|name| (name, *address)));
+    let labels: Labels = labels
+        .map(|(name, address)| (name.clone(), i64::from(address)))
+        .collect();
+    let given = label_addresses(text, base);
+    assert_eq!(given, labels, "the model differs for {text:?}");
+}
+
+/// The reference must find the model's values: each equate less its value
+/// is 0, which a `li` at the end shows. A name that no expression can hold is
+/// not asked for.
+fn confirm(text: &str, base: u32, found: &[Found]) {
+    assert!(!text.contains("probe"), "the name of a probe is taken");
+    let named = found.iter().filter(|found| is_term(&found.name));
+    let probes: Vec<String> = named
+        .enumerate()
+        .map(|(k, found)| {
+            let less = less(found.value);
+            format!("probe{k} = {} {less}\nli a0, probe{k}\n", found.name)
+        })
+        .collect();
+    let probed = format!("{text}\n.text\n{}", probes.concat());
+    let program = match assemble(&probed, base) {
+        Ok(program) => program,
+        Err(error) => panic!("{probed:?}: {}", error.msg),
+    };
+    let zeros = vec![LI_A0_0; probes.len()];
+    assert!(program.text.ends_with(&zeros), "{text:?}: a value differs");
+}
+
+/// The word of `li a0, 0`.
+const LI_A0_0: u32 = 0x0000_0513;
+
+/// What takes a value away, as a part of an expression. No number is as
+/// large as the least value's opposite.
+fn less(value: i64) -> String {
+    match value.checked_neg() {
+        None => format!("+ {} + 1", i64::MAX),
+        Some(opposite) if opposite > 0 => format!("+ {opposite}"),
+        Some(_) => format!("- {value}"),
+    }
+}
+
+/// Whether an expression can hold the name.
+fn is_term(name: &str) -> bool {
+    let is_number = name.starts_with(|c: char| c.is_ascii_digit());
+    name != "." && name.chars().all(is_name_char) && !is_number
 }
 
 // ---------- a refusal ----------
@@ -218,6 +343,9 @@ const MESSAGES: [(&str, u32); 32] = [
 
 /// The last number that is given while the lines are read, in their order.
 const LAST_OF_LINES: u32 = 12;
+
+/// The last number that is given before the pseudos are expanded.
+const LAST_OF_ROUNDS: u32 = 17;
 
 fn refused(text: &str, error: &AsmError) -> Answer {
     if error.msg.starts_with("invalid .float: ") {
@@ -264,21 +392,22 @@ fn item_refusal(text: &str, error: &AsmError) -> Option<u32> {
 // ---------- statements ----------
 
 #[derive(Clone, Copy, PartialEq)]
-enum Section {
+pub enum Section {
     Text,
     Data,
     Bss,
 }
 
-/// What is left of a line after its label, and the section it stands in.
-struct Statement {
-    line: usize,
-    section: Section,
-    text: String,
+/// A line's label, what is left after it, and the section it stands in.
+pub struct Statement {
+    pub line: usize,
+    pub section: Section,
+    pub label: Option<String>,
+    pub text: String,
 }
 
 /// The statements of a source, up to its first bad section name.
-fn statements(text: &str) -> Vec<Statement> {
+pub fn statements(text: &str) -> Vec<Statement> {
     let mut section = Section::Text;
     let mut found = Vec::new();
     for (line, raw) in preprocess(text) {
@@ -288,13 +417,14 @@ fn statements(text: &str) -> Vec<Statement> {
                 None => break,
             }
         } else {
-            let text = match raw.split_once(':') {
-                Some((_, rest)) => rest.trim().to_string(),
-                None => raw,
+            let (label, text) = match raw.split_once(':') {
+                Some((label, rest)) => (Some(label.trim().to_string()), rest.trim().to_string()),
+                None => (None, raw),
             };
             found.push(Statement {
                 line,
                 section,
+                label,
                 text,
             });
         }
@@ -378,7 +508,7 @@ fn begins_with(statement: &str, name: &str, may_end: bool) -> bool {
     }
 }
 
-fn pseudo_words(statement: &str) -> Option<usize> {
+pub fn pseudo_words(statement: &str) -> Option<usize> {
     let mut pseudos = PSEUDOS.iter();
     let found = pseudos.find(|(name, _, may_end)| begins_with(statement, name, *may_end));
     found.map(|(_, words, _)| *words)
@@ -391,7 +521,7 @@ fn is_other_pseudo(statement: &str) -> bool {
 
 // ---------- an accepted source ----------
 
-fn laid(text: &str, program: &Program) -> Answer {
+fn laid(text: &str, base: u32, program: &Program) -> Answer {
     if has_added(text, usize::MAX) {
         return Answer::Out("added 21");
     }
@@ -401,15 +531,33 @@ fn laid(text: &str, program: &Program) -> Answer {
     if program.bss_size > 1_048_576 {
         return Answer::Out("added 43");
     }
+    check_labels(text, base, program);
     let data: String = program.data.iter().map(|b| format!("{b:02X}")).collect();
     Answer::Laid(format!(
-        "{}\t{data}\t{}\t{}\t{}\t{}",
+        "{}\t{data}\t{}\t{}\t{}\t{}\t{}",
         words(text, program),
         program.data_base,
         program.bss_size,
         labels(program),
-        items(program)
+        items(program),
+        equates(text, base)
     ))
+}
+
+/// The equates and the evaluations, as the model has them.
+fn equates(text: &str, base: u32) -> String {
+    match resolve(text, base) {
+        Resolved::Through(found, evaluations) => {
+            confirm(text, base, &found);
+            let found = found.iter().map(|found| {
+                let name = escape_name(&found.name);
+                format!("{name}@{}@{}@{}", found.line, found.value, found.round)
+            });
+            let found = found.collect::<Vec<_>>().join(",");
+            format!("{found}\t{evaluations}")
+        }
+        Resolved::Refused(number, line) => panic!("{text:?}: the model says {number} at {line}"),
+    }
 }
 
 /// The text words; an ordinary line's is a hyphen.
@@ -459,6 +607,7 @@ fn labels(program: &Program) -> String {
     let by_address: BTreeMap<_, _> = program.labels.iter().collect();
     let mut fields = Vec::new();
     for (address, names) in by_address {
+        let names: BTreeSet<_> = names.iter().collect();
         for name in names {
             let line = program.label_to_line[name];
             fields.push(format!("{}@{address}@{line}", escape_name(name)));

@@ -5,6 +5,7 @@
 
 mod cases;
 mod encoder;
+mod equates;
 mod gnu;
 mod layout;
 mod numbers;
@@ -68,7 +69,7 @@ fn write_sources(directory: &str) -> io::Result<()> {
     write_file(directory, "sources", &text)
 }
 
-/// Writes the line stage's list, with the files' texts at its end.
+/// Writes the stages' list, with the files' texts in it.
 fn write_stage(directory: &str, files: &[String]) -> io::Result<()> {
     let texts: io::Result<Vec<String>> = files.iter().map(|file| read_source(file)).collect();
     let (text, counts) = layout::stage_cases(&texts?);

@@ -33,8 +33,11 @@ pub const BUILDERS: [Builder; 11] = [
     add_random,
 ];
 
-/// Builders whose sources are all in the list for the line stage.
-pub const WHOLE: [Builder; 2] = [add_name_edges, add_good_pseudos];
+/// Builders whose sources are all in the list for the stages.
+pub const WHOLE: [Builder; 3] = [add_name_edges, add_good_pseudos, add_symbols];
+
+/// The builder of the sources whose sums go beyond 64 signed bits.
+pub const BEYOND: Builder = add_beyond;
 
 /// The sources of some builders, in the list's order.
 pub fn built(builders: &[Builder]) -> Vec<(String, u32)> {
@@ -841,6 +844,392 @@ fn add_limits(sources: &mut Sources) {
     }
 }
 
+// ---------- symbols ----------
+
+/// Sources for the symbols' records: what they show is each value, its round
+/// and the evaluations, or the line that is refused. They are in the stages'
+/// list alone.
+fn add_symbols(sources: &mut Sources) {
+    add_long_chains(sources);
+    add_waiting(sources);
+    add_cycles(sources);
+    add_undefined(sources);
+    add_named_twice(sources);
+    add_edges(sources);
+    add_heres(sources);
+    add_later_labels(sources);
+    add_parted(sources);
+    add_names(sources);
+    add_malformed(sources);
+    add_words_first(sources);
+}
+
+/// Each equate one more than the one above it, than the one below it, and
+/// than the one two below.
+fn add_long_chains(sources: &mut Sources) {
+    for count in [2, 3, 5, 9, 16, 33] {
+        let above = |k: usize| k.checked_sub(1);
+        let below = |k: usize| (k + 1 < count).then_some(k + 1);
+        let two_below = |k: usize| (k + 2 < count).then_some(k + 2);
+        sources.add(&chain(count, above));
+        sources.add(&chain(count, below));
+        sources.add(&chain(count, two_below));
+    }
+}
+
+/// So many equates, each one more than another; 7 where there is no other.
+fn chain(count: usize, other: impl Fn(usize) -> Option<usize>) -> String {
+    let line = |k| match other(k) {
+        Some(other) => format!("e{k} = e{other} + 1\n"),
+        None => format!("e{k} = 7\n"),
+    };
+    (0..count).map(line).collect()
+}
+
+/// Chains as long as the limit of equates.
+pub fn long_chains() -> Vec<String> {
+    let count = 256;
+    vec![
+        chain(count, |k| k.checked_sub(1)),
+        chain(count, |k| (k + 1 < count).then_some(k + 1)),
+        chain(count, |k| (k + 16 < count).then_some(k + 16)),
+    ]
+}
+
+/// An equate that waits at one term after the other, its others found in
+/// every order.
+fn add_waiting(sources: &mut Sources) {
+    let others = ["b = 1", "c = b + 2", "d = c - . + 3"];
+    for order in orders(others.len()) {
+        let lines: Vec<&str> = order.iter().map(|place| others[*place]).collect();
+        let lines = lines.join("\n");
+        sources.add(&format!("a = b + c + d\n{lines}\n"));
+        sources.add(&format!("a = x - 1 + . - -d + b - c\n{lines}\nx:\n"));
+        sources.add(&format!("f = a + a\na = 9 + d + 1\n{lines}\n"));
+    }
+    let texts = [
+        "a = 1 + 2 + 3 + b\nb = c\nc = d\nd = 4\n",
+        "a = b + b + b + c + c\nb = c\nc = 4\n",
+        "a = b + c\nb = d\nc = d\nd = 4\n",
+        "a = b + c\nc = d\nb = e\nd = e\ne = 4\n",
+        "a = b - b\nb = 4\n",
+        "a = b\nb = 5\nc = a\nd = e\ne = c\n",
+        "a = 1 + b (\nb = 2\n",
+        "a = 1 + b 2\nb = 2\n",
+        "a = 1 + b +\nb = c\nc = 3\n",
+        "a = 1 + b + c 2\nb = c\nc = 3\n",
+        "a = 1 + b + c 2\nc = b\nb = 3\n",
+        "a = 1 + b + u\nb = 2\n",
+        "a = 1 + b + u 2\nb = 2\n",
+    ];
+    for text in texts {
+        sources.add(text);
+    }
+}
+
+/// Cycles of one, two and three, between equates that are found in the first
+/// round and in a later one.
+fn add_cycles(sources: &mut Sources) {
+    let cycles = [
+        "a = a",
+        "a = 1 + a",
+        "a = a - a",
+        "a = b\nb = a",
+        "b = a + 1\na = b - 1",
+        "a = b\nb = c\nc = a",
+        "a = c\nb = a\nc = b",
+        "a = 5 + b\nb = 5 - c\nc = -a",
+        "z = a\na = b\nb = a",
+        "a = b\nb = a\nz = a",
+    ];
+    for cycle in cycles {
+        sources.add(cycle);
+        sources.add(&format!("x: n = 1\nm = x\n\n{cycle}\n"));
+        sources.add(&format!("k = m\n{cycle}\nm = n\nn = 2\n"));
+        sources.add(&format!("{cycle}\nn = 1\n"));
+    }
+}
+
+/// Names that nothing defines, at each place of an expression and behind
+/// others.
+fn add_undefined(sources: &mut Sources) {
+    let texts = [
+        "n = 1\na = u + n\n",
+        "n = 1\na = n + u\n",
+        "n = 1\na = n - u + n\n",
+        "n = k\na = n + u\nk = 1\n",
+        "a = b\nb = c\nc = u\nn = 1\n",
+        "n = 1\nc = u\nb = c\na = b\n",
+        "x: a = X\n",
+        "x: a = x.\n",
+        "x: a = x + .x\n",
+        "x y: a = x\n",
+        ": a = u\n",
+        "n m = 1\na = n\n",
+        ".data\nx: a = u + x\n.bss\nb = x\n",
+        "a = u\nb = v\n",
+        "n = 1\n\n\nb = v\na = u\n",
+    ];
+    for text in texts {
+        sources.add(text);
+    }
+}
+
+/// One name for two equates or for an equate and a label: 14 before 15, and
+/// the first place in the order of the rounds.
+fn add_named_twice(sources: &mut Sources) {
+    let texts = [
+        "a = b\na = 1\n",
+        "a = b\na = 1\nb = 2\n",
+        "a = 1\na = b\n",
+        "b = 2\na = b\na = 1\n",
+        "a = b\nb = 2\na = 1\n",
+        "a = b\na = c\nc = 1\nb = 2\n",
+        "a = b\na = c\nb = 1\n",
+        "a = a\na = 1\n",
+        "a = 1\na = a\n",
+        "a = 1\na = (\n",
+        "a = (\na = 1\n",
+        "a = u\na = u\n",
+        "a = b\na = 1\nc = (\nb = 2\n",
+        "x:\nx = 1\nx = 2\n",
+        "x = 1\nx = 2\nx:\n",
+        "a = 1\na = 2\nx = 1\nx:\n",
+        "x = 1\na = 1\na = 2\nx:\n",
+        "a = 1\nx = 1\na = 2\nx:\n",
+        "a = b\na = 1\nx = 1\nb = 2\nx:\n",
+        "x = (\nx:\n",
+        "x = u\nx:\n",
+        "a = u\nx = x\nx:\n",
+        "a = (\nx = 1\nx:\n",
+        "a = x\nx = 5\nx:\n",
+        "n m = 1\nn m = 2\n",
+        "n m:\nn m = 1\n",
+        ".equ x, 1\n.set x, 2\n",
+        ".equ x, 1\nx = 2\n",
+        ".equ .x, 1\n.x:\n",
+        "X = 1\nx:\n",
+    ];
+    for text in texts {
+        sources.add(text);
+    }
+}
+
+/// Sums at the edges of 64 signed bits that stay inside them.
+fn add_edges(sources: &mut Sources) {
+    let sums = [
+        "9223372036854775807",
+        "-9223372036854775807",
+        "--9223372036854775807",
+        "---9223372036854775807",
+        "9223372036854775808",
+        "-9223372036854775808",
+        "--9223372036854775808",
+        "0x7FFFFFFFFFFFFFFF",
+        "0x8000000000000000",
+        "-0x8000000000000000",
+        "0b111111111111111111111111111111111111111111111111111111111111111",
+        "-9223372036854775807 - 1",
+        "-1 - 9223372036854775807",
+        "-9223372036854775807 + -1",
+        "9223372036854775806 + 1",
+        "9223372036854775807 - 9223372036854775807",
+        "9223372036854775807 - 1 + 1",
+        "0 - 9223372036854775807 - 1 + 1",
+        "-9223372036854775807 - 1 + 9223372036854775807",
+        "l",
+        "+l",
+        "--l",
+        "0 + --l",
+        "l + g",
+        "g + l",
+        "g - g",
+        "-g",
+        "-g - 1",
+        "l + g - g",
+        "l + g + 1",
+        "-1 - g",
+    ];
+    for sum in sums {
+        sources.add(&format!(
+            "l = -9223372036854775807 - 1\ng = 9223372036854775807\nn = {sum}\n"
+        ));
+    }
+}
+
+/// Sums that go beyond 64 signed bits: a term times its signs, that times
+/// its operator, and a partial sum.
+fn add_beyond(sources: &mut Sources) {
+    let sums = [
+        "-l",
+        "---l",
+        "0 + -l",
+        "0 - l",
+        "0 - --l",
+        "0 - -l",
+        "-l - l",
+        "g + 1",
+        "1 + g",
+        "g + 1 - 1",
+        "l - 1",
+        "l - 1 + 1",
+        "l + l",
+        "g - -1",
+        "g + g + l",
+        "9223372036854775807 + 9223372036854775807",
+        "g + 1 + u",
+        "g + 1 2",
+        "g + 1 +",
+    ];
+    let edges = "l = -9223372036854775807 - 1\ng = 9223372036854775807\n";
+    for sum in sums {
+        sources.add(&format!("{edges}n = {sum}\n"));
+        sources.add(&format!("m = n\nn = {sum}\nk = n\n{edges}"));
+    }
+    sources.add(&format!("{edges}x:\nn = g + 1\nx = 1\n"));
+    sources.add(&format!("n = g + 1\nk = m\nm = 3\n{edges}"));
+    sources.add_at(&format!("{edges}n = g + .\n"), 4);
+    sources.add_at(&format!("{edges}nop\nx: n = g + x\n"), 0);
+}
+
+/// `.` in every section, at its start, after bytes and behind a label.
+fn add_heres(sources: &mut Sources) {
+    for section in SECTIONS {
+        let step = match section {
+            ".text" => "li a0, 2048",
+            _ => ".space 5",
+        };
+        for base in [0, 4, 0xFF00_0000] {
+            let text = joined(&[
+                ".data",
+                ".byte 1,2,3",
+                section,
+                "a = .",
+                step,
+                "b = . - a",
+                "x: c = .",
+                step,
+                ".equ d, . - x",
+                ".set e .",
+                "f = -.",
+            ]);
+            sources.add_at(&text, base);
+        }
+    }
+    sources.add("n = 5\nli a0, n\na = .\nli a0, 5\nb = .\nli a0, m\nc = .\nm = 4096\n");
+    sources.add("a = .\n.bss\nb = .\n.data\nc = .\n.byte 1\n.bss\nd = .\n");
+    sources.add("a = . + ..\n.equ .., 2\n");
+}
+
+/// Equates of labels that stand on later lines, or are defined again there.
+fn add_later_labels(sources: &mut Sources) {
+    let texts = [
+        "n = x\nnop\nx:\n",
+        "n = y - x\nx: push ra\nnop\ny:\n",
+        "n = x\nm = y\n.bss\ny: .space 3\n.data\nx: .byte 1\n",
+        "x: nop\nn = x\nnop\nx:\n",
+        "x: n = x\n.data\nx: m = x\n.bss\nx: k = x\n",
+        "n = m\nm = x\n.bss\nx:\n",
+        "n = m - x\nx: m = x\n",
+        ".bss\n.space 2\nx: n = x - y\n.data\n.space 7\ny:\n",
+        ".data\nn = e - s\ns: .asciz \"N 46\"\n.align 4\ne:\n",
+    ];
+    for text in texts {
+        sources.add(text);
+        sources.add_at(text, 0x1000);
+    }
+}
+
+/// The bytes 9, 11 and 12 where an equate is parted, and inside its name
+/// and its expression.
+fn add_parted(sources: &mut Sources) {
+    let templates = [
+        ".equ n,@5@+@1\nm = n\n",
+        ".equ@n@,@5\nm = n\n",
+        ".equ n@5\nm = n\n",
+        ".set@n@5@+@1@\nm = n\n",
+        ".set n@@5@@-@@@1\nm = n\n",
+        ".set n@m@5\nm = n\n",
+        ".equ n@m, 5\nm = n\n",
+        "n@=@5\nm = n\n",
+        "n =@5@+@1\nm = n\n",
+        "n@k = 5\nm = n\n",
+    ];
+    for template in templates {
+        for white in ["\t", "\x0B", "\x0C", " \x0B", "\r"] {
+            sources.add(&template.replace('@', white));
+        }
+    }
+}
+
+/// Names of every shape, as an equate's and in an expression.
+fn add_names(sources: &mut Sources) {
+    for name in [
+        "$", "$a", "a$", "a$b.c", "_", "__", "a.b", ".a", "..", ".$", ".5", "$5", "a5", "A", "5a",
+        "a-b", "a,b", "0x", "li", "a0", "ra",
+    ] {
+        sources.add(&format!("m = {name} + 1\n.equ {name} , 5\n"));
+        sources.add(&format!("{name}: m = {name} - 1\n"));
+    }
+}
+
+/// Malformed expressions of each kind: alone, behind a name that has no value
+/// yet, behind one that never has, and before them.
+fn add_malformed(sources: &mut Sources) {
+    let tails = [
+        "(",
+        "1)",
+        "2*3",
+        "'a'",
+        "1 2",
+        "1 n",
+        "n 1",
+        "1 +",
+        "- -",
+        "1 . 2",
+        "0x",
+        "0b2",
+        "12ab",
+        "1_0",
+        "9223372036854775808",
+        ",",
+        "n\x0B",
+        "\"n\"",
+        "!",
+    ];
+    for tail in tails {
+        sources.add(&format!("x: a = {tail}\nn = 1\n"));
+        sources.add(&format!("a = n + {tail}\nn = 1\n"));
+        sources.add(&format!("n = 1\na = u + {tail}\n"));
+        sources.add(&format!("n = 1\na = {tail} + u\n"));
+        sources.add(&format!("a = u\nb = k + {tail}\nk = n\nn = 1\n"));
+    }
+}
+
+/// Label words of labels that are defined again, and 13 before anything that
+/// the rounds refuse.
+fn add_words_first(sources: &mut Sources) {
+    for section in SECTIONS {
+        sources.add(&format!(
+            ".data\n.word x\nx: .word x, y\n.bss\n.space 6\n{section}\nx:\ny:\n.data\n.word x\ny:\n"
+        ));
+        for error in [
+            "x = 1",
+            "a = 1\na = 2",
+            "a = (",
+            "a = a",
+            "a = g + 1",
+            "li a0",
+        ] {
+            sources.add(&format!(
+                "g = 9223372036854775807\n{section}\nx:\n{error}\n.data\n.word x\n.word 7, u\n.word v\n"
+            ));
+        }
+    }
+    sources.add("n = 5\n.data\n.word n\n");
+    sources.add(".data\n.word x, u, v\nx: n = u\n");
+}
+
 // ---------- expressions ----------
 
 const SUMS: [&str; 92] = [
@@ -1236,7 +1625,7 @@ fn add_label_words(sources: &mut Sources) {
 }
 
 /// Bytes at both sides of each edge of what a name may hold, as a `.word`'s
-/// first byte and as a later one. They are in the line stage's list alone.
+/// first byte and as a later one. They are in the stages' list alone.
 fn add_name_edges(sources: &mut Sources) {
     for byte in "@AZ[^_`az{/09:-.$".chars() {
         sources.add(&format!(".data\ny: .word {byte}\n"));

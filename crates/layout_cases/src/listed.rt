@@ -3,9 +3,14 @@ use numbers::digits::Digits;
 use numbers::digits::Radix;
 use numbers::digits::digit;
 use numbers::digits::parse_digits;
+use numbers::ints::bits_of_i64;
+use numbers::text::first_is;
+use numbers::text::same_bytes;
 use numbers::text::text_before;
+use replay::field::decode;
 use replay::field::text_after;
 use std::num::wrapping_add_usize;
+use std::num::wrapping_sub_u64;
 
 // A number of 32 bits.
 pub enum Decimal {
@@ -25,6 +30,38 @@ pub fn is_number(n: u32, listed: &[u8]) -> bool {
         Decimal::Is(v) => v == n,
         Decimal::Nothing => false,
     }
+}
+
+// A count: the limit is more than any that the list has.
+pub fn is_count(n: usize, listed: &[u8]) -> bool {
+    is_digits(n as u64, 4294967295, listed)
+}
+
+fn is_digits(n: u64, limit: u64, listed: &[u8]) -> bool {
+    match parse_digits(listed, Radix::Decimal, limit) {
+        Digits::Value(v) => v == n,
+        Digits::Invalid => false,
+    }
+}
+
+// A value of 64 signed bits, `-` before it if it is negative.
+pub fn is_value(v: i64, listed: &[u8]) -> bool {
+    let bits = bits_of_i64(v);
+    if first_is(listed, b'-') {
+        return is_digits(
+            wrapping_sub_u64(0, bits),
+            9223372036854775808,
+            text_after(listed, b'-'),
+        );
+    }
+    is_digits(bits, 9223372036854775807, listed)
+}
+
+// A name, escaped like a field.
+pub fn is_name(name: &[u8], listed: &[u8]) -> bool {
+    let mut space = io::buffer();
+    let n = decode(listed, &mut space);
+    same_bytes(name, &space[..n])
 }
 
 // The part that begins at a place, up to its comma or the end.

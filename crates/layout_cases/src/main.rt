@@ -1,10 +1,10 @@
-// Replays the list of the reference's answers in data/cases against the layout's line stage: how many agreed, and the first line that
+// Replays the list of the reference's answers in data/cases against the layout's stages: how many agreed, and the first line that
 // did not. The list's form is described in differential/README.md.
 mod compare;
+mod equates;
 mod items;
 mod labels;
 mod listed;
-mod places;
 mod records;
 
 use crate::compare::agrees;

@@ -15,17 +15,14 @@ laid-agrees-spec =
     (λ c. search needs)  -- returns
     (λ c. search needs)  -- returns-2
     (λ c. search needs)  -- returns-3
-    (λ c. search needs)  -- cast-of
-    (λ c κs. search needs)  -- of-requires
-    (λ c κs. search needs)  -- fill-all-requires
-    (λ c. search needs)  -- same-length
-    (λ c. search needs)  -- returns-4
     (λ c κs. search needs)  -- after-field-requires
     (λ c κs. search needs)  -- after-field-requires-2
     (λ c κs. search needs)  -- after-field-requires-3
     (λ c κs. search needs)  -- after-field-requires-4
-    (λ c. search needs)  -- slice-reshare-prefix-sizes-agree
+    (λ c κs. search needs)  -- after-field-requires-5
+    (λ c κs. search needs)  -- after-field-requires-6
     slice-aggregate-sizes-agree
+    (λ c κs. search needs)  -- wrapping-add-u32-requires
     (λ c. search needs)  -- cast-sizes-agree
     (λ c κs. search needs)  -- sizes-agree-requires
     (λ c. search needs)  -- sub-is-zeros
@@ -34,7 +31,10 @@ laid-agrees-spec =
     (λ c κs. search needs)  -- is-zeros-requires
     (λ c κs. search needs)  -- field-requires
     (λ c κs. search needs)  -- labels-agree-requires
-    (λ c κs. search needs)  -- after-field-requires-5
+    (λ c κs. search needs)  -- field-requires-2
     (λ c κs. search needs)  -- items-agree-requires
-    (λ c. search needs)  -- same-length-2
-    (λ c. search needs))  -- returns-5
+    (λ c κs. search needs)  -- field-requires-3
+    (λ c κs. search needs)  -- equates-agree-requires
+    (λ c κs. search needs)  -- after-field-requires-7
+    (λ c κs. search needs)  -- is-count-requires
+    (λ c. search needs))  -- returns-4

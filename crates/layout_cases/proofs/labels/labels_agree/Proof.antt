@@ -5,10 +5,10 @@ use Rattle.layout_cases.proofs.labels.labels_agree.Statement.{statement
 use Rattle.layout_cases.proofs.labels.labels_agree.Tie as tie
 
 abbrev Inv-loop : tie.InvT-loop
-Inv-loop text labels count starts listed at₀ k₀ at k = k ≤ count
+Inv-loop text labels count listed at₀ k₀ at k = k ≤ count
 
 abbrev μ-loop : tie.MeasureT-loop
-μ-loop text labels count starts listed at₀ k₀ at k = count - k
+μ-loop text labels count listed at₀ k₀ at k = count - k
 
 loop-holds : tie.Need-loop-holds Inv-loop μ-loop
 loop-holds c = search needs
