@@ -127,7 +127,7 @@ pub record ItemAtFits (t : List ℕ) (n : ℕ) (i : ItemAt) : Type 0 where
   pub first : i .first < n
   pub source : Inside t (i .source)
 
-kind-small : (o : Option Pseudo) → itemKind o ≤ 9
+pub kind-small : (o : Option Pseudo) → itemKind o ≤ 9
 kind-small none = omega arith
 kind-small (some Li) = omega arith
 kind-small (some La) = omega arith

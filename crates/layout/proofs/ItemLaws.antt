@@ -82,7 +82,7 @@ module _ (t : List ℕ) (k : Room) (c : ItemCount) (b b′ : List ℕ) (line : �
         })
 
 -- an item reserves at most 11 words
-words-few : (i : Option Pseudo) (s : List ℕ) → reservedWords i s ≤ 11
+pub words-few : (i : Option Pseudo) (s : List ℕ) → reservedWords i s ≤ 11
 words-few none s = omega arith
 words-few (some pseudos.Li) s = by (pseudoOperands s)
   where

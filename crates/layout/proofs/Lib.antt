@@ -46,6 +46,8 @@ pub mod FixupLaws
 pub mod RoundSteps
 pub mod TurnTables
 pub mod SymbolLaws
+pub mod ExpansionLaws
+pub mod EmitLaws
 pub mod CheckLaws
 pub mod EquatesHold
 pub mod FillLaws

@@ -1,9 +1,10 @@
--- Pseudo-instructions: a line's item by its first word's place in the table of spellings, for any table; and an li's words.
+-- Pseudo-instructions: a line's item by its first word's place in the table of spellings, for any table; an li's words; an item by its kind.
 use Prim.Native.Nat.{ℕ, zero, suc, min, _+_, _*_, _≤_, _<_}
 use native.Mathlib.Omega.{arith}
 use mathlib.Core.Path.{_≡_, refl, sym, ap, _∙_}
 use mathlib.Core.List.{List, [], _∷_, map}
 use mathlib.Core.Bool.{Bool, true, false, cond, not, _&&_, _||_, false≢true, and-false}
+use mathlib.Core.Option.{Option, none, some}
 use lib.Dec.{eqb, leb, leb·suc-suc}
 use lib.ListN.{length, take, drop, getD, List·getD-map}
 use borrow.Author.Tests.{eqb-true, eq-eqb, ne-eqb, eqb-false, not-true, lt-leb}
@@ -19,11 +20,12 @@ use Rattle.numbers.proofs.Bools.{and-left, and-right, or-left, or-right}
 use Rattle.numbers.proofs.Prefixes.{same-equal}
 use Rattle.numbers.proofs.Rows.{column-of}
 use Rattle.numbers.proofs.Parts.{items-spaced, item-step, item-end, items-all}
+use Rattle.layout.specs.declared.pseudo.Pseudo.{Pseudo}
 use Rattle.layout.specs.declared.pseudo.Pseudo.the-variants.{Li, La, Push, Pop, Print, PrintStr, Read, ReadByte, Random}
 use Rattle.layout.specs.declared.pseudo.LineKind.{LineKind}
 use Rattle.layout.specs.declared.pseudo.LineKind.the-variants as kind
-use Rattle.layout.specs.Pseudos.{Item, ordinary, pseudo, other, Spelling, spellings, itemIn, liNumber, liWords}
-use Rattle.layout.specs.code.Kinds.{itemNumber, SpellingTable, beginsAsPseudo, kindCode, kindSource, kindNumber}
+use Rattle.layout.specs.Pseudos.{Item, ordinary, pseudo, other, Spelling, spellings, itemIn, liNumber, liWords, itemKind}
+use Rattle.layout.specs.code.Kinds.{itemNumber, SpellingTable, beginsAsPseudo, kindCode, kindItem, kindSource, kindNumber}
 
 -- ---- one spelling
 
@@ -251,3 +253,27 @@ module _ (t : List ℕ) where
     pub li-two : (q : Span) (after : ℕ) → itemOperandAt t next ≡ At q after → liWords (itemOperands (oneSpaced t)) ≡ liNumber (spacedImmOf (spanned t q))
     unfolding spacedImmOf
     li-two q after f = rw (li-operands, item-step t 0 p next e, item-step t next q after f) refl
+
+-- ---- an item's kind read back
+
+-- what a row's number names, where it is an item's
+pub item-numbered : (r : LineKind) (n : ℕ) → kindNumber r ≡ min n 9 → (n ≡ 0 → ⊥) → n ≤ 9 → itemKind (kindItem r) ≡ n
+item-numbered (kind.Instr q) n e h k = absurd (omega arith)
+item-numbered (kind.Pseudo p q) n e h k = omega (arith, e)
+item-numbered (kind.Unsupported q) n e h k = absurd (h (omega (arith, e)))
+
+-- an item is told by its kind
+abbrev numbered : Option Pseudo → Span → LineKind
+numbered none q = kind.Unsupported q
+numbered (some p) q = kind.Pseudo p q
+
+numbered-back : (x : Option Pseudo) (q : Span) → (kindItem (numbered x q) ≡ x) × (kindNumber (numbered x q) ≡ itemKind x) × (kindSource (numbered x q) ≡ q)
+numbered-back none q = (refl, refl, refl)
+numbered-back (some p) q = (refl, refl, refl)
+
+pub item-told : (x y : Option Pseudo) → itemKind x ≡ itemKind y → x ≡ y
+item-told x y e =
+    let q : Span = record { start = 0; len = 0 } in
+    let a = numbered-back x q in
+    let b = numbered-back y q in
+    sym (a .0) ∙ ap kindItem (number-tells (numbered x q) (numbered y q) (a .1 ∙ e ∙ sym (b .1)) (a .2 ∙ sym (b .2))) ∙ b .0

@@ -17,4 +17,5 @@ pub mod Names
 pub mod Terms
 pub mod Resolves
 pub mod Symbols
+pub mod Expands
 pub mod Checks

@@ -13,7 +13,7 @@ use numbers::text::first_is;
 use numbers::text::span_bytes;
 use numbers::text::text_before;
 ghost use mathlib.Core.Path.{_≡_};
-ghost use Prim.Native.Nat.{min};
+ghost use Prim.Native.Nat.{min, _≤_};
 ghost use Rattle.numbers.specs.code.Spans.{spanned};
 ghost use Rattle.layout.specs.Pseudos.{itemOf, pseudoOperands, liWords, pseudoWords, reservedWords, pseudoKind, itemKind};
 ghost use Rattle.layout.specs.code.Kinds.{PseudoNames, beginsAsPseudo, kindCode, kindNumber, kindItem, kindSource};
@@ -91,6 +91,17 @@ fn kind_numbered(kind: u8, source: Span) -> LineKind
         8 => LineKind::Pseudo(Pseudo::ReadByte, source),
         _ => LineKind::Pseudo(Pseudo::Random, source),
     }
+}
+
+// An item's kind, as its record has it.
+pub fn item_kind(kind: u32, source: Span) -> LineKind
+    requires { ⌜ kind ≤ 9 ⌝ }
+    ensures { λ r. ⌜ (itemKind (kindItem r) ≡ kind) × (kindSource r ≡ source) ⌝ }
+{
+    if kind == 0 {
+        return LineKind::Instr(source);
+    }
+    kind_numbered(kind as u8, source)
 }
 
 // Does s begin as a pseudo's name may? Most instructions do not, and are told by this alone.

@@ -22,6 +22,8 @@ pub enum Reg {
 }
 
 impl Register {
+    pub const ZERO: Register = Register(0);
+
     pub const SP: Register = Register(2);
 
     pub const T0: Register = Register(5);

@@ -1,7 +1,7 @@
 // White space, trimming, the comment cut, prefixes and names, on slices and spans.
 ghost use mathlib.Core.Path.{_≡_};
 ghost use Prim.Native.Nat.{_+_, _*_, _/_, _≤_, _<_};
-ghost use mathlib.Core.List.{[], _∷_};
+ghost use mathlib.Core.List.{[], _∷_, _++_};
 ghost use lib.Dec.{ltb};
 ghost use lib.ListN.{length, drop};
 ghost use Rattle.numbers.specs.Text.{isSpace, trimEnd, trimmed, indexOf, before, uncommented};
@@ -259,4 +259,27 @@ pub fn same_one_spaced(operand: &[u8], name: &[u8]) -> bool
         }
     }
     j == name.len()
+}
+
+// A text with each run of white space as one space, at the start of what is lent: how many bytes that is.
+pub fn put_one_spaced(dst: &mut [u8], s: &[u8]) -> usize
+    requires { ⌜ length (now s) ≤ length (now dst) ⌝ }
+    ensures { λ r. ⌜ (r ≡ length (oneSpaced (now (s .entry))))
+        × (now (dst .exit) ≡ oneSpaced (now (s .entry)) ++ drop r (now (dst .entry))) ⌝ }
+{
+    let mut i = 0;
+    let mut n = 0;
+    while i < s.len() {
+        match one_spaced_at(s, i) {
+            OneSpaced::Nothing => {
+                i += 1;
+            }
+            OneSpaced::Byte(b) => {
+                dst[n] = b;
+                i += 1;
+                n += 1;
+            }
+        }
+    }
+    n
 }

@@ -4,6 +4,7 @@ use check::expect;
 use numbers::registers::Register;
 
 pub fn constants() {
+    expect(Register::ZERO.0 == 0);
     expect(Register::SP.0 == 2);
     expect(Register::T0.0 == 5);
     expect(Register::A0.0 == 10);

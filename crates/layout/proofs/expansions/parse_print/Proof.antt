@@ -1,0 +1,33 @@
+-- `expansions::parse_print`: its three instructions, of the only register.
+use mathlib.Core.Path.{_∙_}
+use Rattle.layout.specs.Expansions.{expansion}
+use Rattle.layout.proofs.ExpansionLaws.{register-none, register-some}
+use borrow.Author.Needs.{needs}
+use Rattle.layout.proofs.expansions.parse_print.Statement.{statement}
+use Rattle.layout.proofs.expansions.parse_print.Tie as tie
+
+returns : tie.Need-returns
+unfolding expansion
+returns c =
+    λ const label. c .refused .ensures ∙ register-none _ _ _ (c .before .before .before .only-register .ensures _) (c .before .enum-told .given .1)
+
+returns-2 : tie.Need-returns-2
+unfolding expansion
+returns-2 c =
+    let found = c .before .before .before in
+    λ const label. rw (c .addi2 .ensures, c .before .addi .ensures) (register-some _ _ _ (found .before .before .only-register .ensures _) _ (found .rd .given .1))
+
+pub parse-print-spec : {M : Type 1} → statement M
+parse-print-spec =
+    tie.close
+    (tie.spec
+    (λ c κs. search needs)  -- only-register-requires
+    (λ c. search needs)  -- enum-known-rd
+    (λ c. search needs)  -- enum-told
+    (λ c κs. search needs)  -- refused-requires
+    returns
+    (λ c κs. search needs)  -- addi-requires
+    (λ c. search needs)  -- array-set-from-slots
+    (λ c κs. search needs)  -- addi-requires-2
+    (λ c. search needs)  -- array-set-from-slots-2
+    returns-2)

@@ -1,0 +1,192 @@
+// Items to words: what an item emits, into the part of the words that it is lent.
+use crate::expansions::Expansion;
+use crate::expansions::expand;
+use crate::pseudo::LineKind;
+use crate::pseudo::Pseudo;
+use crate::pseudo::item_kind;
+use crate::records::ItemRecord;
+use crate::state::Count;
+use encoder::Encoded;
+use encoder::encode;
+use numbers::text::Span;
+use numbers::text::span_bytes;
+ghost use mathlib.Core.Path.{_≡_};
+ghost use mathlib.Core.List.{[], _∷_};
+ghost use mathlib.Core.Option.{Option, some};
+ghost use Prim.Native.Nat.{_≤_, _<_};
+ghost use lib.ListN.{length};
+ghost use Rattle.numbers.specs.Results.{value, andThen};
+ghost use Rattle.numbers.specs.code.Spans.{spanned};
+ghost use Rattle.encoder.specs.Encoding.{encoding};
+ghost use Rattle.encoder.specs.code.Meanings.{answerOf};
+ghost use Rattle.layout.specs.declared.pseudo.Pseudo as code;
+ghost use Rattle.layout.specs.Pseudos.{itemKind, pseudoWords, reservedWords};
+ghost use Rattle.layout.specs.Layouts.{encoded};
+ghost use Rattle.layout.specs.code.Steps.{Some};
+ghost use Rattle.layout.specs.code.Kinds.{kindItem, kindSource};
+ghost use Rattle.layout.specs.code.Names.{NamesReady, NamesKnown};
+ghost use Rattle.layout.specs.code.Expands.{longest, slotAt, slotsFrom, expandedOf, emissionIn, CountFits, Puts, sourceSpan, ItemFits};
+
+// The word of an expansion's kth instruction.
+fn word_at(e: Expansion, k: usize) -> Encoded
+    requires { ⌜ k < longest ⌝ }
+    ensures { λ r. ⌜ answerOf r ≡ encoding (slotAt (e .slots) k) ⌝ }
+{
+    let slot = e.slots[k];
+    let inst = slot.inst;
+    encode(inst)
+}
+
+// The words of so many of its instructions, in order. The encoder refuses none of them (`emission-refused`).
+fn put_words(dst: &mut [u32], e: Expansion, n: usize) -> Count
+    requires { ⌜ (n ≤ longest) × (n ≤ length (now dst)) ⌝ }
+    ensures { λ r. ⌜ Puts dst r (encoded (slotsFrom (e .slots) 0 n)) ⌝ }
+{
+    let mut k = 0;
+    while k < n {
+        match word_at(e, k) {
+            Encoded::Word(word) => {
+                dst[k] = word;
+                k += 1;
+            }
+            Encoded::BadRegister => {
+                return Count::Stop(22);
+            }
+            Encoded::BadField => {
+                return Count::Stop(23);
+            }
+        }
+    }
+    Count::Now(n)
+}
+
+// The words of an expansion, or its refusal.
+fn put_expansion(dst: &mut [u32], e: Expansion) -> Count
+    requires { ⌜ CountFits (length (now dst)) (e .count) ⌝ }
+    ensures { λ r. ⌜ Puts dst r (andThen (expandedOf e) encoded) ⌝ }
+{
+    let count = e.count;
+    match count {
+        Count::Now(n) => put_words(dst, e, n),
+        Count::Stop(number) => Count::Stop(number),
+    }
+}
+
+// The one word of an ordinary line.
+fn put_ordinary(dst: &mut [u32]) -> Count
+    requires { ⌜ 1 ≤ length (now dst) ⌝ }
+    ensures { λ r. ⌜ Puts dst r (value (0 ∷ [])) ⌝ }
+{
+    dst[0] = 0;
+    Count::Now(1)
+}
+
+// The words of a pseudo by its source.
+fn emit_pseudo(
+    text: &[u8],
+    labels: &[u8],
+    label_index: &[u16],
+    label_count: usize,
+    equates: &[u8],
+    equate_index: &[u16],
+    equate_count: usize,
+    scratch: &mut [u8],
+    pseudo: Pseudo,
+    s: &[u8],
+    dst: &mut [u32],
+) -> Count
+    requires { ⌜ NamesReady text labels «label_index» «label_count» equates «equate_index» «equate_count»
+        × (length (now s) ≤ length (now scratch)) × (pseudoWords «pseudo» (now s) ≤ length (now dst)) ⌝ }
+    ensures { λ r. ⌜ NamesKnown text labels «label_index» «label_count» equates «equate_index» «equate_count»
+        (λ names. Puts dst r (emissionIn names (some «pseudo») (now (s .entry)))) ⌝ }
+{
+    let expansion = expand(
+        text,
+        labels,
+        label_index,
+        label_count,
+        equates,
+        equate_index,
+        equate_count,
+        scratch,
+        pseudo,
+        s,
+    );
+    put_expansion(dst, expansion)
+}
+
+// The words of a line by its kind: how many they are, or a refusal's number.
+fn emit_line(
+    text: &[u8],
+    labels: &[u8],
+    label_index: &[u16],
+    label_count: usize,
+    equates: &[u8],
+    equate_index: &[u16],
+    equate_count: usize,
+    scratch: &mut [u8],
+    kind: LineKind,
+    dst: &mut [u32],
+) -> Count
+    requires { ⌜ NamesReady text labels «label_index» «label_count» equates «equate_index» «equate_count»
+        × (length (spanned (now text) (kindSource kind)) ≤ length (now scratch))
+        × (reservedWords (kindItem kind) (spanned (now text) (kindSource kind)) ≤ length (now dst)) ⌝ }
+    ensures { λ r. ⌜ NamesKnown text labels «label_index» «label_count» equates «equate_index» «equate_count»
+        (λ names. Puts dst r (emissionIn names (kindItem kind) (spanned (now (text .entry)) (kindSource kind)))) ⌝ }
+{
+    match kind {
+        LineKind::Instr(_) => put_ordinary(dst),
+        LineKind::Pseudo(p, source) => emit_pseudo(
+            text,
+            labels,
+            label_index,
+            label_count,
+            equates,
+            equate_index,
+            equate_count,
+            scratch,
+            p,
+            span_bytes(text, source),
+            dst,
+        ),
+        LineKind::Unsupported(_) => put_ordinary(dst),
+    }
+}
+
+// The words of an item by its record.
+pub fn emit_item(
+    text: &[u8],
+    labels: &[u8],
+    label_index: &[u16],
+    label_count: usize,
+    equates: &[u8],
+    equate_index: &[u16],
+    equate_count: usize,
+    scratch: &mut [u8],
+    item: ItemRecord,
+    dst: &mut [u32],
+) -> Count
+    requires { ⌜ NamesReady text labels «label_index» «label_count» equates «equate_index» «equate_count»
+        × (length (spanned (now text) (sourceSpan item)) ≤ length (now scratch))
+        × Some (ItemFits (now text) (length (now dst)) item) ⌝ }
+    ensures { λ r. ⌜ NamesKnown text labels «label_index» «label_count» equates «equate_index» «equate_count»
+        (λ names. (x : Option code.Pseudo) → item .kind ≡ itemKind x
+        → Puts dst r (emissionIn names x (spanned (now (text .entry)) (sourceSpan item)))) ⌝ }
+{
+    let source = Span {
+        start: item.start as usize,
+        len: item.len as usize,
+    };
+    emit_line(
+        text,
+        labels,
+        label_index,
+        label_count,
+        equates,
+        equate_index,
+        equate_count,
+        scratch,
+        item_kind(item.kind, source),
+        dst,
+    )
+}

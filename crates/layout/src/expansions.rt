@@ -1,0 +1,641 @@
+// Pseudo-instructions as instructions: each of the nine reads its operands and expands, or is refused by 18, 19 or 20.
+use crate::addresses::Address;
+use crate::addresses::label_address;
+use crate::equates::Value;
+use crate::equates::constant;
+use crate::pieces::word_len;
+use crate::pseudo::Pseudo;
+use crate::state::Count;
+use encoder::instruction::Instruction;
+use encoder::split::lower_part;
+use encoder::split::signed_of;
+use encoder::split::upper_part;
+use numbers::imm::parse_imm_one_spaced;
+use numbers::ints::Imm;
+use numbers::ints::bits_of_i32;
+use numbers::ints::in_signed12;
+use numbers::ints::in_signed32;
+use numbers::operands::Operand;
+use numbers::operands::item_operand_at;
+use numbers::registers::Reg;
+use numbers::registers::Register;
+use numbers::registers::parse_reg;
+use numbers::text::Span;
+use numbers::text::first_is;
+use numbers::text::put_one_spaced;
+use numbers::text::span_bytes;
+ghost use mathlib.Core.Path.{_≡_};
+ghost use mathlib.Core.List.{List, [], _∷_};
+ghost use mathlib.Core.Option.{none};
+ghost use Prim.Native.Nat.{ℕ, _≤_};
+ghost use lib.IntN.{ℤ};
+ghost use lib.ListN.{length, drop};
+ghost use Rattle.numbers.specs.declared.registers.Register.{Register};
+ghost use Rattle.numbers.specs.Results.{value, refused};
+ghost use Rattle.numbers.specs.Text.{isSpace, oneSpaced};
+ghost use Rattle.numbers.specs.Registers.{registerOf};
+ghost use Rattle.numbers.specs.Numbers.{immOf};
+ghost use Rattle.numbers.specs.code.Meanings.{registerNumber};
+ghost use Rattle.encoder.specs.declared.instruction.Instruction.the-variants.{Addi};
+ghost use Rattle.encoder.specs.Split.{loadPair};
+ghost use Rattle.layout.specs.declared.pseudo.Pseudo.the-variants as pseudo;
+ghost use Rattle.layout.specs.Bytes.{countBefore};
+ghost use Rattle.layout.specs.Addresses.{labelAddress};
+ghost use Rattle.layout.specs.Rounds.{constant};
+ghost use Rattle.layout.specs.Expansions.{Expanded, oneOperand, twoOperands, onRegister, noRegister, onLabel, onNumber, liLoad};
+ghost use Rattle.layout.specs.code.Steps.{Some};
+ghost use Rattle.layout.specs.code.Tables.{LabelsIndexed};
+ghost use Rattle.layout.specs.code.Placed.{WherePlaced, addressOf};
+ghost use Rattle.layout.specs.code.Names.{EquateTable, NamesReady, NamesKnown};
+ghost use Rattle.layout.specs.code.Expands.{spacedOperands, onlyThen, twoThen, loadThen, targetThen, immThen, Loads, expandedOf};
+ghost use Rattle.layout.specs.code.Expands.{WhereKnown, ExpandsAlone, ExpandsByLabels, ExpandsByEquates, expansionIn};
+
+// The longest expansion, print_str's.
+pub const LONGEST: usize = 11;
+
+// One instruction of an expansion.
+pub struct Slot {
+    pub inst: Instruction,
+}
+
+// The instructions that a pseudo stands for, and their count, or a refusal's number.
+pub struct Expansion {
+    pub slots: [Slot; LONGEST],
+    pub count: Count,
+}
+
+// Slots begin as ecalls, so that an ecall in an expansion needs no store.
+const ECALL: Slot = Slot {
+    inst: Instruction::Ecall,
+};
+
+fn refused(number: u8) -> Expansion
+    ensures { λ r. ⌜ expandedOf r ≡ refused number ⌝ }
+{
+    Expansion {
+        slots: [ECALL; LONGEST],
+        count: Count::Stop(number),
+    }
+}
+
+// What follows a source's first word: its operands.
+fn operands_text(s: &[u8]) -> &[u8]
+    ensures { λ r. ⌜ now r ≡ drop (countBefore isSpace (now (s .entry))) (now (s .entry)) ⌝ }
+{
+    let first = word_len(s);
+    &s[first..]
+}
+
+// The only operand, or another number of them.
+enum Only {
+    At(Span),
+    Wrong,
+}
+
+fn only_operand(ops: &[u8]) -> Only
+    ensures { λ r. ⌜ ((f : List ℕ → Expanded) → onlyThen (now (ops .entry)) r f ≡ oneOperand (spacedOperands (now (ops .entry))) f) ⌝ }
+{
+    let Operand::At(one, next) = item_operand_at(ops, 0) else {
+        return Only::Wrong;
+    };
+    match item_operand_at(ops, next) {
+        Operand::At(_, _) => Only::Wrong,
+        Operand::End => Only::At(one),
+    }
+}
+
+// The only operand, which is a register.
+fn only_register(ops: &[u8]) -> Reg
+    ensures { λ r. ⌜ ((f : Register → Expanded) → onRegister (registerNumber r) f
+        ≡ oneOperand (spacedOperands (now (ops .entry))) (λ a. onRegister (registerOf a) f)) ⌝ }
+{
+    let Only::At(one) = only_operand(ops) else {
+        return Reg::Invalid;
+    };
+    parse_reg(span_bytes(ops, one))
+}
+
+// The only operand, which is no register.
+fn only_name(ops: &[u8]) -> Only
+    ensures { λ r. ⌜ ((f : List ℕ → Expanded) → onlyThen (now (ops .entry)) r f
+        ≡ oneOperand (spacedOperands (now (ops .entry))) (λ a. noRegister (registerOf a) (f a))) ⌝ }
+{
+    let Only::At(one) = only_operand(ops) else {
+        return Only::Wrong;
+    };
+    match parse_reg(span_bytes(ops, one)) {
+        Reg::Valid(_) => Only::Wrong,
+        Reg::Invalid => Only::At(one),
+    }
+}
+
+// Two operands, or another number of them.
+enum Two {
+    At(Span, Span),
+    Wrong,
+}
+
+fn two_operands(ops: &[u8]) -> Two
+    ensures { λ r. ⌜ ((f : List ℕ → List ℕ → Expanded) → twoThen (now (ops .entry)) r f ≡ twoOperands (spacedOperands (now (ops .entry))) f) ⌝ }
+{
+    let Operand::At(first, next) = item_operand_at(ops, 0) else {
+        return Two::Wrong;
+    };
+    let Operand::At(second, after) = item_operand_at(ops, next) else {
+        return Two::Wrong;
+    };
+    match item_operand_at(ops, after) {
+        Operand::At(_, _) => Two::Wrong,
+        Operand::End => Two::At(first, second),
+    }
+}
+
+// Two operands, of which the first is a register.
+enum Load {
+    Into(Register, Span),
+    Wrong,
+}
+
+fn load_operands(ops: &[u8]) -> Load
+    ensures { λ r. ⌜ ((f : Register → List ℕ → Expanded) → loadThen (now (ops .entry)) r f
+        ≡ twoOperands (spacedOperands (now (ops .entry))) (λ a b. onRegister (registerOf a) (λ rd. f rd b))) ⌝ }
+{
+    let Two::At(first, second) = two_operands(ops) else {
+        return Load::Wrong;
+    };
+    let Reg::Valid(rd) = parse_reg(span_bytes(ops, first)) else {
+        return Load::Wrong;
+    };
+    Load::Into(rd, second)
+}
+
+// A label's address by an operand, whose white-space runs are one space.
+fn operand_address(
+    text: &[u8],
+    labels: &[u8],
+    index: &[u16],
+    count: usize,
+    scratch: &mut [u8],
+    operand: &[u8],
+) -> Address
+    requires { ⌜ LabelsIndexed (now text) (now labels) (now index) count × (length (now operand) ≤ length (now scratch)) ⌝ }
+    ensures { λ r. ⌜ WherePlaced text labels index count
+        (λ base σ. addressOf r ≡ labelAddress base σ (oneSpaced (now (operand .entry)))) ⌝ }
+{
+    let n = put_one_spaced(scratch, operand);
+    label_address(text, labels, index, count, &scratch[..n])
+}
+
+// The address of the label that the only operand names, or the refusal's number.
+enum Target {
+    At(u32),
+    Refused(u8),
+}
+
+fn label_operand(
+    text: &[u8],
+    labels: &[u8],
+    index: &[u16],
+    count: usize,
+    scratch: &mut [u8],
+    ops: &[u8],
+) -> Target
+    requires { ⌜ LabelsIndexed (now text) (now labels) (now index) count × (length (now ops) ≤ length (now scratch)) ⌝ }
+    ensures { λ r. ⌜ WherePlaced text labels index count (λ base σ. (f : ℕ → Expanded) → targetThen r f
+        ≡ oneOperand (spacedOperands (now (ops .entry))) (λ a. noRegister (registerOf a) (onLabel (labelAddress base σ a) f))) ⌝ }
+{
+    let Only::At(operand) = only_name(ops) else {
+        return Target::Refused(18);
+    };
+    let Address::At(a) = operand_address(
+        text,
+        labels,
+        index,
+        count,
+        scratch,
+        span_bytes(ops, operand),
+    ) else {
+        return Target::Refused(20);
+    };
+    Target::At(a)
+}
+
+// An equate's value by its name, where 32 signed bits hold it. What begins with a quote is no name.
+fn li_constant(text: &[u8], equates: &[u8], index: &[u16], count: usize, name: &[u8]) -> Imm
+    requires { ⌜ Some (EquateTable (now text) (now equates) (now index) count) ⌝ }
+    ensures { λ r. ⌜ WhereKnown text equates index count
+        (λ ks. (f : ℤ → Expanded) → immThen r f ≡ onNumber none (now (name .entry)) (constant ks) f) ⌝ }
+{
+    if first_is(name, b'\'') {
+        return Imm::Invalid;
+    }
+    let Value::Is(v) = constant(text, equates, index, count, name) else {
+        return Imm::Invalid;
+    };
+    if in_signed32(v) {
+        return Imm::Value(v as i32);
+    }
+    Imm::Invalid
+}
+
+// An equate's value by an operand, likewise.
+fn operand_constant(
+    text: &[u8],
+    equates: &[u8],
+    index: &[u16],
+    count: usize,
+    scratch: &mut [u8],
+    operand: &[u8],
+) -> Imm
+    requires { ⌜ Some (EquateTable (now text) (now equates) (now index) count) × (length (now operand) ≤ length (now scratch)) ⌝ }
+    ensures { λ r. ⌜ WhereKnown text equates index count
+        (λ ks. (f : ℤ → Expanded) → immThen r f ≡ onNumber none (oneSpaced (now (operand .entry))) (constant ks) f) ⌝ }
+{
+    let n = put_one_spaced(scratch, operand);
+    li_constant(text, equates, index, count, &scratch[..n])
+}
+
+// What an li loads: a number, or else an equate's value.
+fn li_number(
+    text: &[u8],
+    equates: &[u8],
+    index: &[u16],
+    count: usize,
+    scratch: &mut [u8],
+    operand: &[u8],
+) -> Imm
+    requires { ⌜ Some (EquateTable (now text) (now equates) (now index) count) × (length (now operand) ≤ length (now scratch)) ⌝ }
+    ensures { λ r. ⌜ WhereKnown text equates index count (λ ks. (f : ℤ → Expanded) → immThen r f
+        ≡ onNumber (immOf (oneSpaced (now (operand .entry)))) (oneSpaced (now (operand .entry))) (constant ks) f) ⌝ }
+{
+    match parse_imm_one_spaced(operand) {
+        Imm::Value(v) => Imm::Value(v),
+        Imm::Invalid => operand_constant(text, equates, index, count, scratch, operand),
+    }
+}
+
+fn addi(rd: Register, rs1: Register, imm: i32) -> Slot
+    ensures { λ r. ⌜ r ≡ record { inst = Addi rd rs1 imm } ⌝ }
+{
+    Slot {
+        inst: Instruction::Addi { rd, rs1, imm },
+    }
+}
+
+// The lui of b's upper part and the addi of its lower part.
+struct Pair {
+    upper: Slot,
+    lower: Slot,
+}
+
+fn load_pair(rd: Register, b: u32) -> Pair
+    ensures { λ r. ⌜ Loads rd b r ⌝ }
+{
+    Pair {
+        upper: Slot {
+            inst: Instruction::Lui {
+                rd,
+                imm: signed_of(upper_part(b)),
+            },
+        },
+        lower: Slot {
+            inst: Instruction::Addi {
+                rd,
+                rs1: rd,
+                imm: signed_of(lower_part(b)),
+            },
+        },
+    }
+}
+
+// The pair alone: what leaves b in rd.
+fn load_word(rd: Register, b: u32) -> Expansion
+    ensures { λ r. ⌜ expandedOf r ≡ value (loadPair rd b) ⌝ }
+{
+    let pair = load_pair(rd, b);
+    let upper = pair.upper;
+    let lower = pair.lower;
+    let mut slots = [upper; LONGEST];
+    slots[1] = lower;
+    Expansion {
+        slots,
+        count: Count::Now(2),
+    }
+}
+
+// One instruction alone.
+fn one(slot: Slot) -> Expansion
+    ensures { λ r. ⌜ expandedOf r ≡ value (slot .inst ∷ []) ⌝ }
+{
+    Expansion {
+        slots: [slot; LONGEST],
+        count: Count::Now(1),
+    }
+}
+
+// A small number by an addi, another by the pair.
+fn load_number(rd: Register, v: i32) -> Expansion
+    ensures { λ r. ⌜ expandedOf r ≡ liLoad rd v ⌝ }
+{
+    if in_signed12(v) {
+        return one(addi(rd, Register::ZERO, v));
+    }
+    load_word(rd, bits_of_i32(v))
+}
+
+// li rd, imm
+fn parse_li(
+    text: &[u8],
+    equates: &[u8],
+    index: &[u16],
+    count: usize,
+    scratch: &mut [u8],
+    ops: &[u8],
+) -> Expansion
+    requires { ⌜ Some (EquateTable (now text) (now equates) (now index) count) × (length (now ops) ≤ length (now scratch)) ⌝ }
+    ensures { λ r. ⌜ ExpandsByEquates text equates index count pseudo.Li ops r ⌝ }
+{
+    let Load::Into(rd, operand) = load_operands(ops) else {
+        return refused(18);
+    };
+    let Imm::Value(v) = li_number(
+        text,
+        equates,
+        index,
+        count,
+        scratch,
+        span_bytes(ops, operand),
+    ) else {
+        return refused(19);
+    };
+    load_number(rd, v)
+}
+
+// la rd, label
+fn parse_la(
+    text: &[u8],
+    labels: &[u8],
+    index: &[u16],
+    count: usize,
+    scratch: &mut [u8],
+    ops: &[u8],
+) -> Expansion
+    requires { ⌜ LabelsIndexed (now text) (now labels) (now index) count × (length (now ops) ≤ length (now scratch)) ⌝ }
+    ensures { λ r. ⌜ ExpandsByLabels text labels index count pseudo.La ops r ⌝ }
+{
+    let Load::Into(rd, operand) = load_operands(ops) else {
+        return refused(18);
+    };
+    let Address::At(a) = operand_address(
+        text,
+        labels,
+        index,
+        count,
+        scratch,
+        span_bytes(ops, operand),
+    ) else {
+        return refused(20);
+    };
+    load_word(rd, a)
+}
+
+// push rs
+fn parse_push(ops: &[u8]) -> Expansion
+    ensures { λ r. ⌜ ExpandsAlone pseudo.Push ops r ⌝ }
+{
+    let Reg::Valid(rs) = only_register(ops) else {
+        return refused(18);
+    };
+    let mut slots = [ECALL; LONGEST];
+    slots[0] = addi(Register::SP, Register::SP, -4);
+    slots[1] = Slot {
+        inst: Instruction::Sw {
+            rs2: rs,
+            rs1: Register::SP,
+            imm: 0,
+        },
+    };
+    Expansion {
+        slots,
+        count: Count::Now(2),
+    }
+}
+
+// pop rd
+fn parse_pop(ops: &[u8]) -> Expansion
+    ensures { λ r. ⌜ ExpandsAlone pseudo.Pop ops r ⌝ }
+{
+    let Reg::Valid(rd) = only_register(ops) else {
+        return refused(18);
+    };
+    let mut slots = [ECALL; LONGEST];
+    slots[0] = Slot {
+        inst: Instruction::Lw {
+            rd,
+            rs1: Register::SP,
+            imm: 0,
+        },
+    };
+    slots[1] = addi(Register::SP, Register::SP, 4);
+    Expansion {
+        slots,
+        count: Count::Now(2),
+    }
+}
+
+// print rd: a7 = 1000, a0 = rd, ecall
+fn parse_print(ops: &[u8]) -> Expansion
+    ensures { λ r. ⌜ ExpandsAlone pseudo.Print ops r ⌝ }
+{
+    let Reg::Valid(rd) = only_register(ops) else {
+        return refused(18);
+    };
+    let mut slots = [ECALL; LONGEST];
+    slots[0] = addi(Register::A7, Register::ZERO, 1000);
+    slots[1] = addi(Register::A0, rd, 0);
+    Expansion {
+        slots,
+        count: Count::Now(3),
+    }
+}
+
+// print_str label: the length is counted up to the byte 0, then written to standard output
+fn parse_print_str(
+    text: &[u8],
+    labels: &[u8],
+    index: &[u16],
+    count: usize,
+    scratch: &mut [u8],
+    ops: &[u8],
+) -> Expansion
+    requires { ⌜ LabelsIndexed (now text) (now labels) (now index) count × (length (now ops) ≤ length (now scratch)) ⌝ }
+    ensures { λ r. ⌜ ExpandsByLabels text labels index count pseudo.PrintStr ops r ⌝ }
+{
+    match label_operand(text, labels, index, count, scratch, ops) {
+        Target::Refused(number) => refused(number),
+        Target::At(a) => {
+            let pair = load_pair(Register::A1, a);
+            let mut slots = [ECALL; LONGEST];
+            let upper = pair.upper;
+            let lower = pair.lower;
+            slots[0] = upper;
+            slots[1] = lower;
+            slots[2] = addi(Register::A2, Register::A1, 0);
+            slots[3] = Slot {
+                inst: Instruction::Lbu {
+                    rd: Register::T0,
+                    rs1: Register::A2,
+                    imm: 0,
+                },
+            };
+            slots[4] = Slot {
+                inst: Instruction::Beq {
+                    rs1: Register::T0,
+                    rs2: Register::ZERO,
+                    imm: 12,
+                },
+            };
+            slots[5] = addi(Register::A2, Register::A2, 1);
+            slots[6] = Slot {
+                inst: Instruction::Jal {
+                    rd: Register::ZERO,
+                    imm: -12,
+                },
+            };
+            slots[7] = Slot {
+                inst: Instruction::Sub {
+                    rd: Register::A2,
+                    rs1: Register::A2,
+                    rs2: Register::A1,
+                },
+            };
+            slots[8] = addi(Register::A0, Register::ZERO, 1);
+            slots[9] = addi(Register::A7, Register::ZERO, 64);
+            Expansion {
+                slots,
+                count: Count::Now(LONGEST),
+            }
+        }
+    }
+}
+
+// read label: up to 256 bytes of standard input
+fn parse_read(
+    text: &[u8],
+    labels: &[u8],
+    index: &[u16],
+    count: usize,
+    scratch: &mut [u8],
+    ops: &[u8],
+) -> Expansion
+    requires { ⌜ LabelsIndexed (now text) (now labels) (now index) count × (length (now ops) ≤ length (now scratch)) ⌝ }
+    ensures { λ r. ⌜ ExpandsByLabels text labels index count pseudo.Read ops r ⌝ }
+{
+    match label_operand(text, labels, index, count, scratch, ops) {
+        Target::Refused(number) => refused(number),
+        Target::At(a) => {
+            let pair = load_pair(Register::A1, a);
+            let mut slots = [ECALL; LONGEST];
+            let upper = pair.upper;
+            let lower = pair.lower;
+            slots[0] = addi(Register::A0, Register::ZERO, 0);
+            slots[1] = upper;
+            slots[2] = lower;
+            slots[3] = addi(Register::A2, Register::ZERO, 256);
+            slots[4] = addi(Register::A7, Register::ZERO, 63);
+            Expansion {
+                slots,
+                count: Count::Now(6),
+            }
+        }
+    }
+}
+
+// read_byte label
+fn parse_read_byte(
+    text: &[u8],
+    labels: &[u8],
+    index: &[u16],
+    count: usize,
+    scratch: &mut [u8],
+    ops: &[u8],
+) -> Expansion
+    requires { ⌜ LabelsIndexed (now text) (now labels) (now index) count × (length (now ops) ≤ length (now scratch)) ⌝ }
+    ensures { λ r. ⌜ ExpandsByLabels text labels index count pseudo.ReadByte ops r ⌝ }
+{
+    match label_operand(text, labels, index, count, scratch, ops) {
+        Target::Refused(number) => refused(number),
+        Target::At(a) => {
+            let pair = load_pair(Register::A0, a);
+            let mut slots = [ECALL; LONGEST];
+            let upper = pair.upper;
+            let lower = pair.lower;
+            slots[0] = addi(Register::A7, Register::ZERO, 1010);
+            slots[1] = upper;
+            slots[2] = lower;
+            Expansion {
+                slots,
+                count: Count::Now(4),
+            }
+        }
+    }
+}
+
+// random rd: four bytes into a place on the stack, which is then loaded
+fn parse_random(ops: &[u8]) -> Expansion
+    ensures { λ r. ⌜ ExpandsAlone pseudo.Random ops r ⌝ }
+{
+    let Reg::Valid(rd) = only_register(ops) else {
+        return refused(18);
+    };
+    let mut slots = [ECALL; LONGEST];
+    slots[0] = addi(Register::SP, Register::SP, -4);
+    slots[1] = addi(Register::A7, Register::ZERO, 278);
+    slots[2] = addi(Register::A0, Register::SP, 0);
+    slots[3] = addi(Register::A1, Register::ZERO, 4);
+    slots[4] = addi(Register::A2, Register::ZERO, 0);
+    slots[6] = Slot {
+        inst: Instruction::Lw {
+            rd,
+            rs1: Register::SP,
+            imm: 0,
+        },
+    };
+    slots[7] = addi(Register::SP, Register::SP, 4);
+    Expansion {
+        slots,
+        count: Count::Now(8),
+    }
+}
+
+// What a pseudo stands for, of the operands in its source.
+pub fn expand(
+    text: &[u8],
+    labels: &[u8],
+    label_index: &[u16],
+    label_count: usize,
+    equates: &[u8],
+    equate_index: &[u16],
+    equate_count: usize,
+    scratch: &mut [u8],
+    pseudo: Pseudo,
+    s: &[u8],
+) -> Expansion
+    requires { ⌜ NamesReady text labels «label_index» «label_count» equates «equate_index» «equate_count»
+        × (length (now s) ≤ length (now scratch)) ⌝ }
+    ensures { λ r. ⌜ NamesKnown text labels «label_index» «label_count» equates «equate_index» «equate_count»
+        (λ names. expandedOf r ≡ expansionIn names «pseudo» (now (s .entry))) ⌝ }
+{
+    let ops = operands_text(s);
+    match pseudo {
+        Pseudo::Li => parse_li(text, equates, equate_index, equate_count, scratch, ops),
+        Pseudo::La => parse_la(text, labels, label_index, label_count, scratch, ops),
+        Pseudo::Push => parse_push(ops),
+        Pseudo::Pop => parse_pop(ops),
+        Pseudo::Print => parse_print(ops),
+        Pseudo::PrintStr => parse_print_str(text, labels, label_index, label_count, scratch, ops),
+        Pseudo::Read => parse_read(text, labels, label_index, label_count, scratch, ops),
+        Pseudo::ReadByte => parse_read_byte(text, labels, label_index, label_count, scratch, ops),
+        Pseudo::Random => parse_random(ops),
+    }
+}
