@@ -18,11 +18,12 @@ use Rattle.layout.specs.State.{Label, State}
 use Rattle.layout.specs.Stage.{isLabel}
 use Rattle.layout.specs.Addresses.{LabelAt, sectionStart, addressAt, placed, labelAddress}
 use Rattle.layout.specs.Records.{fieldBytes, labelFields, tableOf, labelRecordAt}
+use Rattle.layout.specs.Layouts.{labelRow}
 use Rattle.layout.specs.code.Places.{sectionLimit, sectionCode}
 use Rattle.layout.specs.code.Fits.{Each, LabelFits}
 use Rattle.layout.specs.code.Tables.{labelNames, lookupIn, LabelsIndexed}
 use Rattle.layout.specs.code.Stands.{LabelStore, labelStore, labelName}
-use Rattle.layout.specs.code.Orders.{labelRow, LabelAtFits, LabelTable}
+use Rattle.layout.specs.code.Orders.{LabelAtFits, LabelTable}
 use Rattle.layout.specs.code.Placed.{PlaceCoded, LabelsPlaced, Unplaced}
 use Rattle.layout.proofs.Each.{each-map, each-at}
 use Rattle.layout.proofs.TableLaws.{table-set}

@@ -31,13 +31,13 @@ use Rattle.layout.specs.Addresses.{placed, ordered, addressAt, sectionSt
 use Rattle.layout.specs.Expressions.{Token, plus, minus, dot, number, name, unreadable, tokens, anyUnreadable, Evaluated, positive, negative}
 use Rattle.layout.specs.Expressions.{Wanted, term, joint, onFit, addTerm, onName, sumFrom, evaluate}
 use Rattle.layout.specs.Rounds.{Found, Known, constant, look, isSome, turn, Turns}
-use Rattle.layout.specs.Records.{Field, fieldBytes, equateRecord, equateFields, itemRecord, itemFields, tableOf}
+use Rattle.layout.specs.Records.{Field, fieldBytes, tableOf}
 use Rattle.layout.specs.Layouts.{EquateAt, ItemAt, Layout, emission, Emitted, itemAt, emit, foundEquates, refuseIf, checkBytes}
-use Rattle.layout.specs.Layouts.{resolve, layout, afterLines, layoutOf, Counts, Buffers, Answer, answerOf, callOf}
+use Rattle.layout.specs.Layouts.{resolve, layout, afterLines, layoutOf, labelRow, equateRow, itemRow, Counts, Buffers, Answer, answerOf, callOf}
 use Rattle.layout.specs.Chains.{Among}
 use Rattle.layout.specs.code.Places.{sectionLimit, PlaceFits}
 use Rattle.layout.specs.code.Fits.{Each, Inside, LabelFits, EquateFits, ItemFits, LabelWordFits, Fits, reservedIn}
-use Rattle.layout.specs.code.Orders.{labelRow, LabelAtFits}
+use Rattle.layout.specs.code.Orders.{LabelAtFits}
 use Rattle.layout.proofs.Each.{_and_, each-append, each-weaker, each-map, each-mapped}
 use Rattle.layout.proofs.Gives.{Comes, comes-so, and-then-comes}
 use Rattle.layout.proofs.ByteLaws.{length-le, length-put, length-padded}
@@ -431,12 +431,6 @@ signed-back (pos n) e =
 signed-back (negsuc n) e =
     let h = leb-true n 9223372036854775807 (and-left (leb n 9223372036854775807) true e) in
     rw (le-ltb (18446744073709551616 - suc n) (2 ^ 63) (omega arith)) (ap negsuc (omega arith))
-
-abbrev pub equateRow : EquateAt → List Field
-equateRow x = equateFields (equateRecord (x .name) (x .line) (x .value) (x .round))
-
-abbrev pub itemRow : ItemAt → List Field
-itemRow x = itemFields (itemRecord (x .address) (x .line) (x .kind) (x .first) (x .source))
 
 -- of every record
 pub record RecordsFit (l : Layout) : Type 0 where

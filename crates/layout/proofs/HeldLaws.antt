@@ -18,15 +18,15 @@ use Rattle.layout.specs.Limits.{labelSize, equateSize, itemSize, Lent}
 use Rattle.layout.specs.State.{State}
 use Rattle.layout.specs.Addresses.{LabelAt}
 use Rattle.layout.specs.Records.{Field, fieldBytes, leValue, labelRecordAt, equateRecordAt, itemRecordAt}
-use Rattle.layout.specs.Layouts.{EquateAt, ItemAt, Layout, layoutOf, countsOf, buffersOf, answerOf, callOf}
+use Rattle.layout.specs.Layouts.{EquateAt, ItemAt, Layout, layoutOf, labelRow, equateRow, itemRow, countsOf, buffersOf, answerOf, callOf}
 use Rattle.layout.specs.Chains.{Conditions, Chained}
 use Rattle.layout.specs.Held.{pieceIn, labelFrom, equateFrom, itemFrom, counted, heldLayout}
 use Rattle.layout.specs.Demands.{BeforeRounds, Holds, Demanded}
 use Rattle.layout.specs.code.Fits.{Each, Inside}
-use Rattle.layout.specs.code.Orders.{labelRow, LabelAtFits}
+use Rattle.layout.specs.code.Orders.{LabelAtFits}
 use Rattle.layout.proofs.ResultLaws.{value-refused, refused-same}
 use Rattle.layout.proofs.ByteLaws.{le-value, le-back}
-use Rattle.layout.proofs.Fields.{bits-below, signed-back, EquateAtFits, ItemAtFits, equateRow, itemRow, LayoutFits, layout-fits}
+use Rattle.layout.proofs.Fields.{bits-below, signed-back, EquateAtFits, ItemAtFits, LayoutFits, layout-fits}
 use Rattle.layout.proofs.DemandLaws.{refusal-numbered, unresolved-line, unresolved-exactly, accepted-holds}
 
 -- ---- records one after the other

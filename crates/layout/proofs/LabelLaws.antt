@@ -22,6 +22,7 @@ use Rattle.layout.specs.State.{Label, State}
 use Rattle.layout.specs.Stage.{isLabel, recorded, addLabel}
 use Rattle.layout.specs.Addresses.{LabelAt, addressAt, addressIn}
 use Rattle.layout.specs.Records.{fieldBytes, labelFields}
+use Rattle.layout.specs.Layouts.{labelRow}
 use Rattle.layout.specs.code.Fits.{LabelFits}
 use Rattle.layout.specs.code.Steps.{Agrees}
 use Rattle.layout.specs.code.Spans.{pieceAt, SpanWithin}
@@ -29,7 +30,7 @@ use Rattle.layout.specs.code.Places.{sectionLimit, sectionCode, placeCod
 use Rattle.layout.specs.code.Index.{buckets, bucketOf, inserted}
 use Rattle.layout.specs.code.Tables.{labelNames, lookupIn, LabelsIndexed}
 use Rattle.layout.specs.code.Stands.{labelSoFar, LabelStore, labelName, LabelsStand}
-use Rattle.layout.specs.code.Orders.{labelRow, LabelAtFits, LabelTable}
+use Rattle.layout.specs.code.Orders.{LabelAtFits, LabelTable}
 use Rattle.layout.proofs.Each.{each-map}
 use Rattle.layout.proofs.SpanLaws.{within-size, within-inside}
 use Rattle.layout.proofs.TableLaws.{table-more, table-set}

@@ -13,9 +13,10 @@ use Rattle.layout.specs.Limits.{labelSize}
 use Rattle.layout.specs.Pieces.{piece}
 use Rattle.layout.specs.Addresses.{LabelAt}
 use Rattle.layout.specs.Records.{fieldBytes, labelRecord, labelRecordAt}
+use Rattle.layout.specs.Layouts.{labelRow}
 use Rattle.layout.specs.code.Index.{nameAt, Indexed, Distinct}
 use Rattle.layout.specs.code.Tables.{labelNameAt, labelNames, LabelsIndexed}
-use Rattle.layout.specs.code.Orders.{labelRow, LabelAtFits, LabelTable}
+use Rattle.layout.specs.code.Orders.{LabelAtFits, LabelTable}
 use Rattle.layout.proofs.Each.{each-at}
 use Rattle.layout.proofs.TableLaws.{length-records, read-row}
 

@@ -48,6 +48,7 @@ pub mod TurnTables
 pub mod SymbolLaws
 pub mod ExpansionLaws
 pub mod EmitLaws
+pub mod EmitSteps
 pub mod CheckLaws
 pub mod EquatesHold
 pub mod FillLaws

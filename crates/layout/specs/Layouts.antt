@@ -21,7 +21,7 @@ use Rattle.layout.specs.Stage.{lineStage}
 use Rattle.layout.specs.Addresses.{sectionStart, LabelAt, placed, ordered, labelAddress, fill}
 use Rattle.layout.specs.Rounds.{Found, Known, pendingEquate, constant, Turns, rounds}
 use Rattle.layout.specs.Expansions.{expansion}
-use Rattle.layout.specs.Records.{labelRecord, labelFields, equateRecord, equateFields, itemRecord, itemFields, tableOf}
+use Rattle.layout.specs.Records.{Field, labelRecord, labelFields, equateRecord, equateFields, itemRecord, itemFields, tableOf}
 
 -- an equate with its value and round, and an item with its first word's index
 pub record EquateAt : Type 0 where
@@ -173,15 +173,25 @@ countsOf l =
       evaluations = l .evaluations;
     }
 
+-- a record's fields
+abbrev pub labelRow : LabelAt → List Field
+labelRow x = labelFields (labelRecord (x .name) (x .address) (x .line))
+
+abbrev pub equateRow : EquateAt → List Field
+equateRow x = equateFields (equateRecord (x .name) (x .line) (x .value) (x .round))
+
+abbrev pub itemRow : ItemAt → List Field
+itemRow x = itemFields (itemRecord (x .address) (x .line) (x .kind) (x .first) (x .source))
+
 -- "Output after the used part is zero"
 abbrev pub buffersOf : Lent → Layout → Buffers
 buffersOf k l =
     record {
       words = padded (k .words) (l .words);
       dataBytes = padded (k .dataBytes) (l .dataBytes);
-      labels = tableOf (k .labelBytes) (λ x. labelFields (labelRecord (x .name) (x .address) (x .line))) (l .labels);
-      equates = tableOf (k .equateBytes) (λ x. equateFields (equateRecord (x .name) (x .line) (x .value) (x .round))) (l .equates);
-      items = tableOf (k .itemBytes) (λ x. itemFields (itemRecord (x .address) (x .line) (x .kind) (x .first) (x .source))) (l .items);
+      labels = tableOf (k .labelBytes) labelRow (l .labels);
+      equates = tableOf (k .equateBytes) equateRow (l .equates);
+      items = tableOf (k .itemBytes) itemRow (l .items);
     }
 
 -- the order's demand 1: "after a refusal every lent output is all zeros and every count 0"

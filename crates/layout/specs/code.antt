@@ -18,4 +18,5 @@ pub mod Terms
 pub mod Resolves
 pub mod Symbols
 pub mod Expands
+pub mod Emits
 pub mod Checks

@@ -1,10 +1,13 @@
 // Items to words: what an item emits, into the part of the words that it is lent.
+use crate::addresses::Starts;
 use crate::expansions::Expansion;
 use crate::expansions::expand;
 use crate::pseudo::LineKind;
 use crate::pseudo::Pseudo;
 use crate::pseudo::item_kind;
 use crate::records::ItemRecord;
+use crate::records::get_item;
+use crate::records::put_item;
 use crate::state::Count;
 use encoder::Encoded;
 use encoder::encode;
@@ -26,6 +29,13 @@ ghost use Rattle.layout.specs.code.Steps.{Some};
 ghost use Rattle.layout.specs.code.Kinds.{kindItem, kindSource};
 ghost use Rattle.layout.specs.code.Names.{NamesReady, NamesKnown};
 ghost use Rattle.layout.specs.code.Expands.{longest, slotAt, slotsFrom, expandedOf, emissionIn, CountFits, Puts, sourceSpan, ItemFits};
+ghost use Rattle.layout.specs.code.Emits.{EmitReady, Emits};
+
+// Every item is emitted, in so many words; or a refusal's number and line.
+pub enum EmitStep {
+    Through(usize),
+    Refused(u8, u32),
+}
 
 // The word of an expansion's kth instruction.
 fn word_at(e: Expansion, k: usize) -> Encoded
@@ -154,7 +164,7 @@ fn emit_line(
 }
 
 // The words of an item by its record.
-pub fn emit_item(
+fn emit_item(
     text: &[u8],
     labels: &[u8],
     label_index: &[u16],
@@ -189,4 +199,59 @@ pub fn emit_item(
         item_kind(item.kind, source),
         dst,
     )
+}
+
+// So many items in text order: each one's words behind those before it, and into its record its address and its first word's index.
+pub fn emit_items(
+    text: &[u8],
+    labels: &[u8],
+    label_index: &[u16],
+    label_count: usize,
+    equates: &[u8],
+    equate_index: &[u16],
+    equate_count: usize,
+    scratch: &mut [u8],
+    starts: Starts,
+    items: &mut [u8],
+    count: usize,
+    words: &mut [u32],
+) -> EmitStep
+    requires { ⌜ EmitReady text labels «label_index» «label_count» equates «equate_index» «equate_count» scratch starts items count words ⌝ }
+    ensures { λ r. ⌜ Emits text labels «label_index» «label_count» equates «equate_index» «equate_count» starts items count words r ⌝ }
+{
+    let mut at = 0;
+    let mut k = 0;
+    while k < count {
+        let item = get_item(items, k);
+        match emit_item(
+            text,
+            labels,
+            label_index,
+            label_count,
+            equates,
+            equate_index,
+            equate_count,
+            scratch,
+            item,
+            &mut words[at..],
+        ) {
+            Count::Now(n) => {
+                let emitted = ItemRecord {
+                    address: starts.address(item.address),
+                    line: item.line,
+                    kind: item.kind,
+                    first: at as u32,
+                    start: item.start,
+                    len: item.len,
+                };
+                put_item(items, k, emitted);
+                at += n;
+                k += 1;
+            }
+            Count::Stop(n) => {
+                return EmitStep::Refused(n, item.line);
+            }
+        }
+    }
+    EmitStep::Through(at)
 }
