@@ -238,7 +238,7 @@ placed-fit t base σ low short l g = record { name = g .name; address = place-be
 
 -- ---- the equates' records
 
-found-length : (ks : List Known) → Each IsFound ks → length (foundEquates ks) ≡ length ks
+pub found-length : (ks : List Known) → Each IsFound ks → length (foundEquates ks) ≡ length ks
 unfolding foundEquates
 found-length [] r = refl
 found-length (k ∷ ks) r = rw (r .0 .1) (ap suc (found-length ks (r .1)))

@@ -56,6 +56,7 @@ pub mod ItemsHold
 pub mod ConditionLaws
 pub mod DemandLaws
 pub mod HeldLaws
+pub mod CallLaws
 pub mod Computing
 pub mod TwelveCases
 pub mod RecordCases

@@ -17,4 +17,5 @@ pub mod Terms
 pub mod Chains
 pub mod Held
 pub mod Demands
+pub mod Calls
 pub mod code

@@ -19,4 +19,5 @@ pub mod Resolves
 pub mod Symbols
 pub mod Expands
 pub mod Emits
+pub mod Calls
 pub mod Checks

@@ -3,6 +3,8 @@ ghost use mathlib.Core.Path.{_≡_};
 ghost use Prim.Native.Nat.{min};
 ghost use Rattle.layout.specs.Limits.{roomOf};
 
+pub const BASE_LIMIT: u32 = 0xFF000000;
+
 pub const TEXT_LIMIT: usize = 65536;
 
 pub const WORD_LIMIT: usize = 16384;

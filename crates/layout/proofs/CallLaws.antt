@@ -1,0 +1,369 @@
+-- The whole call: each stage gets what it asks from the one before it, and their answers together are the definition's.
+use Prim.Native.Nat.{ℕ, suc, _+_, _*_, _-_, _≤_, _<_}
+use native.Mathlib.Omega.{arith}
+use mathlib.Core.Path.{_≡_, refl, sym, ap, subst, _∙_}
+use mathlib.Core.List.{List, [], _∷_, _++_, map, append-nil}
+use mathlib.Core.Option.{Option, none, some}
+use lib.ListN.{length, drop, replicate, length-replicate, drop-of-length-le}
+use Rattle.numbers.specs.Results.{Result, value, refused, andThen}
+use Rattle.layout.specs.declared.limits.Room.{Room}
+use Rattle.layout.specs.declared.state.Counters.{Counters}
+use Rattle.layout.specs.declared.addresses.Starts.{Starts}
+use Rattle.layout.specs.declared.rounds.Resolved.the-variants as resolved
+use Rattle.layout.specs.declared.emit.EmitStep.the-variants as step
+use Rattle.layout.specs.declared.state.Section.the-variants as section
+use Rattle.layout.specs.declared.assembler.Counts as counted
+use Rattle.layout.specs.declared.assembler.Laid.{Laid}
+use Rattle.layout.specs.declared.assembler.Laid.the-variants as laid
+use Rattle.layout.specs.declared.stage.Stage.the-variants as stage
+use Rattle.layout.specs.declared.assembler.Bytes.the-variants as bytes
+use Rattle.layout.specs.Refusals.{Refusal}
+use Rattle.layout.specs.Bytes.{padded, together}
+use Rattle.layout.specs.Limits.{baseLimit, textLimit, labelSize, Lent, roomOf}
+use Rattle.layout.specs.Pieces.{lines, linePieces}
+use Rattle.layout.specs.Stage.{lineStage}
+use Rattle.layout.specs.Demands.{Demanded}
+use Rattle.layout.specs.State.{State, start}
+use Rattle.layout.specs.Addresses.{placed, ordered, sectionStart, labelAddress, fill}
+use Rattle.layout.specs.Rounds.{Found, Known, constant, turn, Turns}
+use Rattle.layout.specs.Records.{fieldBytes, tableOf}
+use Rattle.layout.specs.Layouts.{checkBytes, layoutOf, Answer, answerOf, callOf, noCounts, zeroBuffers}
+use Rattle.layout.specs.Layouts.{Layout, Buffers, Emitted, emit, consFound, foundEquates, resolve, layout, afterLines, countsOf, buffersOf, labelRow, equateRow, itemRow}
+use Rattle.layout.specs.code.Steps.{Some}
+use Rattle.layout.specs.code.Fits.{Each}
+use Rattle.layout.specs.code.Stands.{Store, store, Stands, startCounters, StageAgrees}
+use Rattle.layout.specs.code.Checks.{BytesAgree}
+use Rattle.layout.specs.code.Placed.{StartsAt}
+use Rattle.layout.specs.code.Names.{Scope, knownFields}
+use Rattle.layout.specs.code.Orders.{LabelTable}
+use Rattle.layout.specs.code.Symbols.{SymbolsStand, Symbols, symbolsOf, SymbolsLeft, SymbolsAgree}
+use Rattle.layout.specs.code.Emits.{Unemitted, emittedIn, EmitLeft, EmitAgrees}
+use Rattle.layout.specs.code.Calls.{buffers, lengths, countsIn, answerIn, LaidLeft, LaidAgrees, linesOf, LinesRead}
+use Rattle.layout.specs.Calls.{Assembled}
+use Rattle.numbers.proofs.Bools.{none-some}
+use Rattle.layout.proofs.Gives.{Comes}
+use borrow.Author.Tests.{lt-ltb, le-ltb}
+use Rattle.layout.proofs.TurnLaws.{start-stands}
+use Rattle.layout.proofs.HeldLaws.{demanded}
+use Rattle.layout.proofs.ResultLaws.{refused-value, value-same}
+use Rattle.layout.proofs.IndexLaws.{indexed-none}
+use Rattle.layout.proofs.RoundHistory.{AllFound, IsFound, none-pending}
+use Rattle.layout.proofs.ResolveLaws.{RoundsRefused, all-end}
+use Rattle.layout.proofs.Fields.{fill-fits, Emits, emit-fits, InText, found-length}
+
+-- ---- equates that are all found
+
+found-each : (xs : List Known) → Each IsFound xs → map (λ x. fieldBytes (knownFields x)) xs ≡ map (λ x. fieldBytes (equateRow x)) (foundEquates xs)
+unfolding foundEquates
+found-each [] g = refl
+found-each (x ∷ xs) g = by (x .found) (g .0 .1) (found-each xs (g .1))
+  where
+    by : (o : Option Found) → o ≡ some (g .0 .0) → map (λ y. fieldBytes (knownFields y)) xs ≡ map (λ y. fieldBytes (equateRow y)) (foundEquates xs)
+        → fieldBytes (knownFields (record { equate = x .equate; found = o })) ∷ map (λ y. fieldBytes (knownFields y)) xs
+        ≡ map (λ y. fieldBytes (equateRow y)) (consFound x o (foundEquates xs))
+    by none p h = absurd (none-some p)
+    by (some f) p h = ap (λ (bs : List (List ℕ)). fieldBytes (knownFields (record { equate = x .equate; found = some f })) ∷ bs) h
+
+-- the table of what is known of them is the table of their records
+found-rows : (n : ℕ) (ks : List Known) → Each IsFound ks → tableOf n knownFields ks ≡ tableOf n equateRow (foundEquates ks)
+found-rows n ks all = ap (λ (bs : List (List ℕ)). padded n (together bs)) (found-each ks all)
+
+-- ---- after the lines
+
+-- what follows the symbols
+abbrev emitting : ℕ → State → Symbols → Result Refusal Layout
+emitting base σ y =
+    andThen (emit base (constant (y .turns .known)) (labelAddress base σ) (σ .rest .own .items .list) [] []) (λ z. value (layout base σ (y .bytes) (y .turns) z))
+
+after-symbols : (base : ℕ) (σ : State) → afterLines base σ ≡ andThen (symbolsOf base σ) (emitting base σ)
+unfolding afterLines
+after-symbols base σ = by (fill (labelAddress base σ) (σ .rest .own .stored .labelWords) (σ .rest .own .stored .bytes)) (resolve base σ (σ .rest .equates))
+  where
+    by : (f : Result Refusal (List ℕ)) (g : Result Refusal Turns)
+        → andThen f (λ bytes. andThen g (λ x. emitting base σ (record { bytes = bytes; turns = x })))
+        ≡ andThen (andThen f (λ bytes. andThen g (λ x. value (record { bytes = bytes; turns = x })))) (emitting base σ)
+    by (refused r) g = refl
+    by (value bytes) (refused r) = refl
+    by (value bytes) (value x) = refl
+
+module _ {t : List ℕ} {base : ℕ} {st : Counters} {l n e x i d lw w : List ℕ} {k : Room} {σ : State}
+    (s : LinesRead t base st l n e x i d lw w k σ) where
+  -- symbols can be resolved, with an index and waits of zeros
+  pub symbols-ready : SymbolsStand t base st l n e (replicate 1280 0) x (replicate 256 0) d lw k σ
+  symbols-ready =
+      record {
+        text = s .text;
+        base-limit = s .base-limit;
+        labels = s .stands .labels;
+        equates = s .stands .rest .equates;
+        stored = s .stands .rest .own .stored;
+        index = indexed-none 1280 (omega arith);
+        index-room = omega (arith, length-replicate {A = ℕ} 1280 0);
+        waits-room = omega (arith, length-replicate {A = ℕ} 256 0);
+      }
+
+  pub starts-of : (r : Starts) → ((τ : State) → length (τ .rest .own .stored .bytes) ≡ st .rest .own .stored .bytes → StartsAt r base τ) → StartsAt r base σ
+  starts-of r f = f σ (sym (s .stands .rest .own .stored .counted))
+
+  pub few-labels : st .labels * labelSize ≤ 16384
+  few-labels = omega (arith, s .stands .labels .counted, s .stands .labels .fits .few, s .stands .labels .limit)
+
+  -- what the rest asks of a stage that is through
+  module _ (l′ e′ ix d′ : List ℕ) (m : ℕ) where
+    -- the symbols that it left
+    pub record Left : Type 0 where
+      pub symbols : Symbols
+      pub are : symbolsOf base σ ≡ value symbols
+      pub left : SymbolsLeft t base σ st l′ n e′ ix d′ m symbols
+
+    pub symbols-through : SymbolsAgree t base σ st l′ n e′ ix d′ (resolved.Through m) (symbolsOf base σ) → Left
+    symbols-through a = by (symbolsOf base σ) refl a
+      where
+        by : (o : Result Refusal Symbols) → symbolsOf base σ ≡ o → SymbolsAgree t base σ st l′ n e′ ix d′ (resolved.Through m) o → Left
+        by (value y) q b = record { symbols = y; are = q; left = b }
+        by (refused r) q b = absurd b
+
+    pub symbols-stop : (r : ℕ) (line : ℕ) → SymbolsAgree t base σ st l′ n e′ ix d′ (resolved.Refused r line) (symbolsOf base σ)
+        → (b : Buffers) → LaidAgrees b (laid.Refused r line) (afterLines base σ)
+    symbols-stop r line a b = rw (after-symbols base σ) (by (symbolsOf base σ) a)
+      where
+        by : (o : Result Refusal Symbols) → SymbolsAgree t base σ st l′ n e′ ix d′ (resolved.Refused r line) o
+            → LaidAgrees b (laid.Refused r line) (andThen o (emitting base σ))
+        by (value y) q = absurd q
+        by (refused z) q = q
+
+    module _ (y : Left) (starts : Starts) (at : StartsAt starts base σ) where
+      abbrev scope : Scope
+      scope = record { base = base; state = σ; known = y .symbols .turns .known }
+
+      abbrev pub unemitted : Unemitted t l′ n (st .labels) e′ ix (st .rest .equates) starts i (st .rest .own .items .items) w
+      unemitted =
+          record {
+            scope = scope;
+            room = k;
+            reserved = st .rest .own .items .words;
+            names = record { labels = y .left .labels; equates = y .left .equates };
+            starting = at;
+            items = s .stands .rest .own .items;
+            zeros = s .zeros;
+            lent = s .lent;
+          }
+
+      -- what follows the symbols
+      after-is : afterLines base σ ≡ emitting base σ (y .symbols)
+      after-is = after-symbols base σ ∙ ap (λ (o : Result Refusal Symbols). andThen o (emitting base σ)) (y .are)
+
+      pub emit-stop : (i′ w′ : List ℕ) (r line : ℕ) → EmitAgrees i′ w′ (step.Refused r line) (emittedIn scope) → (b : Buffers)
+          → LaidAgrees b (laid.Refused r line) (afterLines base σ)
+      emit-stop i′ w′ r line a b = rw after-is (by (emittedIn scope) a)
+        where
+          by : (o : Result Refusal Emitted) → EmitAgrees i′ w′ (step.Refused r line) o
+              → LaidAgrees b (laid.Refused r line) (andThen o (λ z. value (layout base σ (y .symbols .bytes) (y .symbols .turns) z)))
+          by (value z) q = absurd q
+          by (refused z) q = q
+
+      all-found : AllFound (turn base σ) (σ .rest .equates) (y .symbols .turns .known) (y .symbols .turns .evaluations)
+      all-found = by (fill (labelAddress base σ) (σ .rest .own .stored .labelWords) (σ .rest .own .stored .bytes)) (resolve base σ (σ .rest .equates)) (all-end base σ (σ .rest .equates)) (y .are)
+        where
+          by : (f : Result Refusal (List ℕ)) (g : Result Refusal Turns) → Comes (λ z. AllFound (turn base σ) (σ .rest .equates) (z .known) (z .evaluations)) (RoundsRefused base σ (σ .rest .equates)) g
+              → andThen f (λ bytes. andThen g (λ z. value (record { bytes = bytes; turns = z }))) ≡ value (y .symbols)
+              → AllFound (turn base σ) (σ .rest .equates) (y .symbols .turns .known) (y .symbols .turns .evaluations)
+          by (refused r) g c q = absurd (refused-value q)
+          by (value bytes) (refused r) c q = absurd (refused-value q)
+          by (value bytes) (value z) c q = rw (ap (λ (o : Symbols). o .turns) (value-same q)) at c
+
+      data-size : length (y .symbols .bytes) ≡ st .rest .own .stored .bytes
+      data-size =
+          by (fill (labelAddress base σ) (σ .rest .own .stored .labelWords) (σ .rest .own .stored .bytes)) (resolve base σ (σ .rest .equates))
+          (fill-fits t (labelAddress base σ) (σ .rest .own .stored .labelWords) (length (σ .rest .own .stored .bytes)) (σ .rest .own .stored .bytes) refl (s .stands .rest .own .stored .fits .each))
+          (y .are) ∙ sym (s .stands .rest .own .stored .counted)
+        where
+          by : (f : Result Refusal (List ℕ)) (g : Result Refusal Turns) → Comes (λ bs. length bs ≡ length (σ .rest .own .stored .bytes)) (InText t) f
+              → andThen f (λ bytes. andThen g (λ z. value (record { bytes = bytes; turns = z }))) ≡ value (y .symbols)
+              → length (y .symbols .bytes) ≡ length (σ .rest .own .stored .bytes)
+          by (refused r) g c q = absurd (refused-value q)
+          by (value bytes) (refused r) c q = absurd (refused-value q)
+          by (value bytes) (value z) c q = ap (λ (o : Symbols). length (o .bytes)) (sym (value-same q)) ∙ c
+
+      module _ (i′ w′ l″ : List ℕ) (count : ℕ) (ordering : LabelTable t l″ (st .labels) (ordered (map (placed base σ) (σ .labels)))) where
+        abbrev counts : counted.Counts
+        counts =
+            record {
+              words = count;
+              «data_bytes» = st .rest .own .stored .bytes;
+              «data_base» = starts .«data»;
+              «bss_size» = st .rest .own .bss;
+              labels = st .labels;
+              equates = st .rest .equates;
+              items = st .rest .own .items .items;
+              evaluations = m;
+            }
+
+        laid-left : (z : Emitted) → EmitLeft i′ w′ count z → length (z .items) ≡ length (σ .rest .own .items .list)
+            → LaidLeft (buffers w′ d′ l″ e′ i′) counts (layout base σ (y .symbols .bytes) (y .symbols .turns) z)
+        laid-left z a c =
+            let own = s .stands .rest .own in
+            let found = none-pending (y .symbols .turns .known) (all-found .found) in
+            let equates : st .rest .equates ≡ length (foundEquates (y .symbols .turns .known)) = y .left .equates .rows .counted ∙ sym (found-length (y .symbols .turns .known) found) in
+            let items : st .rest .own .items .items ≡ length (z .items) = own .items .counted ∙ sym c in
+            record {
+              counts = λ j. record {
+                words = a .counted j;
+                dataBytes = sym data-size j;
+                dataBase = at .data-start j;
+                bssSize = own .bss j;
+                labels = ordering .counted j;
+                equates = equates j;
+                items = items j;
+                evaluations = y .left .evaluations j;
+              };
+              buffers = λ j. record {
+                words = a .words j;
+                dataBytes = y .left .bytes j;
+                labels = ordering .records j;
+                equates = (y .left .equates .rows .records ∙ found-rows (length e′) (y .symbols .turns .known) found) j;
+                items = a .items j;
+              };
+            }
+
+        pub emit-go : EmitAgrees i′ w′ (step.Through count) (emittedIn scope) → LaidAgrees (buffers w′ d′ l″ e′ i′) (laid.Through counts) (afterLines base σ)
+        emit-go a =
+            rw after-is
+            (by (emittedIn scope)
+            (emit-fits t base (s .base-limit) (constant (y .symbols .turns .known)) (labelAddress base σ) (σ .rest .own .items .list) [] [] (s .stands .rest .own .items .fits .each) tt tt) a)
+          where
+            by : (o : Result Refusal Emitted) → Comes (Emits t (σ .rest .own .items .list) [] []) (InText t) o → EmitAgrees i′ w′ (step.Through count) o
+                → LaidAgrees (buffers w′ d′ l″ e′ i′) (laid.Through counts) (andThen o (λ z. value (layout base σ (y .symbols .bytes) (y .symbols .turns) z)))
+            by (value z) f q = laid-left z q (omega (arith, f .count))
+            by (refused z) f q = absurd q
+
+-- ---- the lines
+
+-- buffers of zeros, and the stage's own tables of zeros, stand for nothing laid out
+pub lines-ready : (t : List ℕ) (words : ℕ) (l e i d : List ℕ) → l ≡ replicate (length l) 0 → e ≡ replicate (length e) 0 → i ≡ replicate (length i) 0
+    → d ≡ replicate (length d) 0
+    → Stands t (roomOf (record { words = words; dataBytes = length d; labelBytes = length l; equateBytes = length e; itemBytes = length i })) startCounters
+    (store l (replicate 2048 0) e (replicate 4096 0) i d (replicate 16384 0)) start
+lines-ready t words l e i d zl ze zi zd =
+    start-stands t words l (replicate 2048 0) e (replicate 4096 0) i d (replicate 16384 0) (length-replicate {A = ℕ} 2048 0) (length-replicate {A = ℕ} 4096 0)
+    (length-replicate {A = ℕ} 16384 0) zl (zeros 2048) ze (zeros 4096) zi zd (zeros 16384)
+  where
+    zeros : (n : ℕ) → replicate {A = ℕ} n 0 ≡ replicate (length (replicate {A = ℕ} n 0)) 0
+    zeros n = ap (λ (m : ℕ). replicate m 0) (sym (length-replicate {A = ℕ} n 0))
+
+pub room-words : (k : Room) (lent : Lent) → k ≡ roomOf lent → k .words ≤ lent .words
+room-words k lent e = rw e (omega arith)
+
+module _ (t : List ℕ) (k : Room) (base : ℕ) where
+  -- lines that go through leave what follows them
+  pub record Read (st : Counters) (l n e x i d lw w : List ℕ) (a : Result Refusal State) : Type 0 where
+    pub state : State
+    pub are : a ≡ value state
+    pub read : LinesRead t base st l n e x i d lw w k state
+
+  pub lines-read : (st : Counters) (l n e x i d lw w : List ℕ) → length t ≤ textLimit → base ≤ baseLimit → w ≡ replicate (length w) 0 → k .words ≤ length w
+      → (a : Result Refusal State) → StageAgrees t k (store l n e x i d lw) (stage.Through st) a → Read st l n e x i d lw w a
+  lines-read st l n e x i d lw w short low zeros room (refused r) s = absurd s
+  lines-read st l n e x i d lw w short low zeros room (value σ) s =
+      record { state = σ; are = refl; read = record { text = short; base-limit = low; stands = s; zeros = zeros; lent = room } }
+
+module _ (t : List ℕ) (base : ℕ) (lent : Lent) (k : Room) (same : k ≡ roomOf lent) where
+  abbrev stage-of : Result Refusal State
+  stage-of = lineStage k 0 (linePieces 0 (lines t)) start
+
+  pub lines-go : (σ : State) → stage-of ≡ value σ → (b : Buffers) (r : Laid) → LaidAgrees b r (afterLines base σ) → LaidAgrees b r (linesOf t base lent)
+  lines-go σ q b r a =
+      subst (LaidAgrees b r) (sym (ap (λ (z : Room). andThen (lineStage z 0 (linePieces 0 (lines t)) start) (afterLines base)) (sym same) ∙ ap (λ (o : Result Refusal State). andThen o (afterLines base)) q)) a
+
+  pub lines-stop : (s : Store) (n line : ℕ) → StageAgrees t k s (stage.Refused n line) stage-of → (b : Buffers) → LaidAgrees b (laid.Refused n line) (linesOf t base lent)
+  lines-stop s n line a b =
+      subst (LaidAgrees b (laid.Refused n line)) (ap (λ (z : Room). andThen (lineStage z 0 (linePieces 0 (lines t)) start) (afterLines base)) same) (by stage-of a)
+    where
+      by : (o : Result Refusal State) → StageAgrees t k s (stage.Refused n line) o → LaidAgrees b (laid.Refused n line) (andThen o (afterLines base))
+      by (value σ) q = absurd q
+      by (refused r) q = q
+
+-- ---- before the lines
+
+module _ (t : List ℕ) (base : ℕ) (k : Lent) (b : Buffers) where
+  pub base-stop : baseLimit < base → LaidAgrees b (laid.Refused 40 0) (layoutOf t base k)
+  unfolding layoutOf
+  base-stop h = rw (lt-ltb baseLimit base h) (refl, refl)
+
+  module _ (low : base ≤ baseLimit) where
+    pub text-stop : textLimit < length t → LaidAgrees b (laid.Refused 41 0) (layoutOf t base k)
+    unfolding layoutOf
+    text-stop h = rw (le-ltb baseLimit base low, lt-ltb textLimit (length t) h) (refl, refl)
+
+    module _ (short : length t ≤ textLimit) where
+      checked : layoutOf t base k ≡ andThen (checkBytes 0 t) (λ _. linesOf t base k)
+      unfolding layoutOf
+      checked = rw (le-ltb baseLimit base low, le-ltb textLimit (length t) short) refl
+
+      pub bytes-stop : (line : ℕ) → BytesAgree (bytes.High line) (checkBytes 0 t) → LaidAgrees b (laid.Refused 1 line) (layoutOf t base k)
+      bytes-stop line a = rw checked (by (checkBytes 0 t) a)
+        where
+          by : (o : Result Refusal Unit) → BytesAgree (bytes.High line) o → LaidAgrees b (laid.Refused 1 line) (andThen o (λ _. linesOf t base k))
+          by (value u) q = absurd q
+          by (refused r) q = (sym (ap (λ (z : Refusal). z .number) q), sym (ap (λ (z : Refusal). z .line) q))
+
+      pub bytes-go : (r : Laid) → BytesAgree bytes.Fine (checkBytes 0 t) → LaidAgrees b r (linesOf t base k) → LaidAgrees b r (layoutOf t base k)
+      bytes-go r a c = rw checked (by (checkBytes 0 t) a)
+        where
+          by : (o : Result Refusal Unit) → BytesAgree bytes.Fine o → LaidAgrees b r (andThen o (λ _. linesOf t base k))
+          by (value u) q = c
+          by (refused z) q = absurd q
+
+-- ---- the answer
+
+abbrev none-counted : counted.Counts
+none-counted = record { words = 0; «data_bytes» = 0; «data_base» = 0; «bss_size» = 0; labels = 0; equates = 0; items = 0; evaluations = 0 }
+
+module _ (t : List ℕ) (base : ℕ) (k : Lent) where
+  assembled : (a : Answer) → a ≡ callOf t base k → Assembled t base k a
+  assembled a e = record { given = e; demanded = subst (Demanded t base k) (sym e) (demanded t base k) }
+
+-- ---- clearing
+
+-- as many zeros as there were numbers
+pub filled : (b : List ℕ) (i : ℕ) → length b ≤ i → (b′ : List ℕ) → b′ ≡ replicate i 0 ++ drop i b → i ≤ length b → b′ ≡ replicate (length b) 0
+filled b i h b′ e g =
+    let same : i ≡ length b = omega arith in
+    e ∙ ap (λ (r : List ℕ). replicate i 0 ++ r) (drop-of-length-le b {i = i} h) ∙ append-nil (replicate i 0) ∙ ap (λ (n : ℕ). replicate n 0) same
+
+pub cleared : (b b′ : List ℕ) → b′ ≡ replicate (length b) 0 → b′ ≡ replicate (length b′) 0
+cleared b b′ e = e ∙ ap (λ (n : ℕ). replicate n 0) (sym (ap length e ∙ length-replicate {A = ℕ} (length b) 0))
+
+module _ (b b′ : Buffers) where
+  pub same-lengths : length (b′ .words) ≡ length (b .words) → length (b′ .dataBytes) ≡ length (b .dataBytes) → length (b′ .labels) ≡ length (b .labels)
+      → length (b′ .equates) ≡ length (b .equates) → length (b′ .items) ≡ length (b .items) → lengths b′ ≡ lengths b
+  same-lengths hw hd hl he hi = λ j. record { words = hw j; dataBytes = hd j; labelBytes = hl j; equateBytes = he j; itemBytes = hi j }
+
+  pub zeroed : b′ .words ≡ replicate (length (b .words)) 0 → b′ .dataBytes ≡ replicate (length (b .dataBytes)) 0 → b′ .labels ≡ replicate (length (b .labels)) 0
+      → b′ .equates ≡ replicate (length (b .equates)) 0 → b′ .items ≡ replicate (length (b .items)) 0 → b′ ≡ zeroBuffers (lengths b)
+  zeroed hw hd hl he hi = λ j. record { words = hw j; dataBytes = hd j; labels = hl j; equates = he j; items = hi j }
+
+-- ---- the call: b₀ was lent, b₁ is cleared, and the stages left b
+
+module _ (t : List ℕ) (base : ℕ) (b₀ b₁ b : Buffers) (same : lengths b₁ ≡ lengths b₀) (kept : lengths b ≡ lengths b₁) where
+  pub call-through : (c : counted.Counts) → LaidAgrees b (laid.Through c) (layoutOf t base (lengths b₁))
+      → Assembled t base (lengths b₀) (answerIn (record { number = 0; line = 0; counts = c }) b)
+  call-through c a = assembled t base (lengths b₀) _ (by (layoutOf t base (lengths b₀)) (rw same at a))
+    where
+      by : (o : Result Refusal Layout) → LaidAgrees b (laid.Through c) o → answerIn (record { number = 0; line = 0; counts = c }) b ≡ answerOf (lengths b₀) o
+      by (refused r) q = absurd q
+      by (value x) q =
+          let left : b ≡ buffersOf (lengths b₀) x = q .buffers ∙ ap (λ (z : Lent). buffersOf z x) (kept ∙ same) in
+          λ j. record { number = 0; line = 0; counts = q .counts j; buffers = left j }
+
+  pub call-refused : (n line : ℕ) → LaidAgrees b (laid.Refused n line) (layoutOf t base (lengths b₁)) → (b′ : Buffers) → b′ ≡ zeroBuffers (lengths b)
+      → Assembled t base (lengths b₀) (answerIn (record { number = n; line = line; counts = none-counted }) b′)
+  call-refused n line a b′ zeros = assembled t base (lengths b₀) _ (by (layoutOf t base (lengths b₀)) (rw same at a))
+    where
+      left : b′ ≡ zeroBuffers (lengths b₀)
+      left = zeros ∙ ap zeroBuffers (kept ∙ same)
+
+      by : (o : Result Refusal Layout) → LaidAgrees b (laid.Refused n line) o
+          → answerIn (record { number = n; line = line; counts = none-counted }) b′ ≡ answerOf (lengths b₀) o
+      by (value x) q = absurd q
+      by (refused r) q = λ j. record { number = q .0 j; line = q .1 j; counts = noCounts; buffers = left j }

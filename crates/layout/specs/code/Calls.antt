@@ -1,0 +1,103 @@
+-- The whole call in the code: what its stages ask of the buffers and leave in them, and its answer as the definitions have it.
+use denote.Ref.{now}
+use Prim.Native.Nat.{ℕ, _≤_}
+use mathlib.Core.Path.{_≡_}
+use mathlib.Core.List.{List}
+use lib.ListN.{length, replicate}
+use Rattle.numbers.specs.Results.{Result, value, refused, andThen}
+use Rattle.layout.specs.declared.limits.Room.{Room}
+use Rattle.layout.specs.declared.state.Counters.{Counters}
+use Rattle.layout.specs.declared.assembler.Counts as counted
+use Rattle.layout.specs.declared.assembler.Answer as answered
+use Rattle.layout.specs.declared.assembler.Laid.{Laid}
+use Rattle.layout.specs.declared.assembler.Laid.the-variants as laid
+use Rattle.layout.specs.Refusals.{Refusal}
+use Rattle.layout.specs.Limits.{baseLimit, textLimit, roomOf}
+use Rattle.layout.specs.Limits as limits
+use Rattle.layout.specs.State.{State, start}
+use Rattle.layout.specs.Pieces.{lines, linePieces}
+use Rattle.layout.specs.Stage.{lineStage}
+use Rattle.layout.specs.Layouts.{Layout, afterLines, Counts, Buffers, Answer, countsOf, buffersOf}
+use Rattle.layout.specs.code.Stands.{Stands, store}
+use Rattle.layout.specs.code.Lent.{Lent, OverCall}
+
+-- ---- the answer as the definitions have it
+
+abbrev pub buffers : (w d l e i : List ℕ) → Buffers
+buffers w d l e i = record { words = w; dataBytes = d; labels = l; equates = e; items = i }
+
+-- how much was lent, by the buffers
+abbrev pub lengths : Buffers → limits.Lent
+lengths b =
+    record {
+      words = length (b .words);
+      dataBytes = length (b .dataBytes);
+      labelBytes = length (b .labels);
+      equateBytes = length (b .equates);
+      itemBytes = length (b .items);
+    }
+
+abbrev pub countsIn : counted.Counts → Counts
+countsIn c =
+    record {
+      words = c .words;
+      dataBytes = c .«data_bytes»;
+      dataBase = c .«data_base»;
+      bssSize = c .«bss_size»;
+      labels = c .labels;
+      equates = c .equates;
+      items = c .items;
+      evaluations = c .evaluations;
+    }
+
+-- what a caller holds: the answer, and the buffers as they are left
+abbrev pub answerIn : answered.Answer → Buffers → Answer
+answerIn r b = record { number = r .number; line = r .line; counts = countsIn (r .counts); buffers = b }
+
+-- the lent buffers when the call begins and when it ends
+abbrev pub buffersNow : Lent → Lent → Lent → Lent → Lent → Buffers
+buffersNow w d l e i = buffers (now w) (now d) (now l) (now e) (now i)
+
+-- ---- the stages
+
+-- counts and buffers are those of the layout, or both refuse with one number and line
+pub record LaidLeft (b : Buffers) (c : counted.Counts) (l : Layout) : Type 0 where
+  pub counts : countsIn c ≡ countsOf l
+  pub buffers : b ≡ buffersOf (lengths b) l
+
+abbrev pub LaidAgrees : Buffers → Laid → Result Refusal Layout → Type 0
+LaidAgrees b (laid.Through c) (value l) = LaidLeft b c l
+LaidAgrees b (laid.Through c) (refused r) = ⊥
+LaidAgrees b (laid.Refused n line) (value l) = ⊥
+LaidAgrees b (laid.Refused n line) (refused r) = (n ≡ r .number) × (line ≡ r .line)
+
+-- the lines of a text, and what follows them
+abbrev pub linesOf : List ℕ → ℕ → limits.Lent → Result Refusal Layout
+linesOf t base k = andThen (lineStage (roomOf k) 0 (linePieces 0 (lines t)) start) (afterLines base)
+
+-- what the lines left, and words of zeros
+pub record LinesRead (t : List ℕ) (base : ℕ) (st : Counters) (l n e x i d lw w : List ℕ) (k : Room) (σ : State) : Type 0 where
+  pub text : length t ≤ textLimit
+  pub base-limit : base ≤ baseLimit
+  pub stands : Stands t k st (store l n e x i d lw) σ
+  pub zeros : w ≡ replicate (length w) 0
+  pub lent : k .words ≤ length w
+
+pub record LinesReady (t : Lent) (base : ℕ) (st : Counters) (l n e x i d lw w : Lent) : Type 0 where
+  pub room : Room
+  pub state : State
+  pub read : LinesRead (now t) base st (now l) (now n) (now e) (now x) (now i) (now d) (now lw) (now w) room state
+
+-- whatever the lines came to, what follows them agrees with the definition
+abbrev pub LinesGive : OverCall → ℕ → Counters → OverCall → OverCall → OverCall → OverCall → OverCall → OverCall → OverCall → OverCall → Laid → Type 0
+LinesGive t base st l n e x i d lw w r =
+    (s : LinesReady (t .entry) base st (l .entry) (n .entry) (e .entry) (x .entry) (i .entry) (d .entry) (lw .entry) (w .entry))
+    → LaidAgrees (buffersNow (w .exit) (d .exit) (l .exit) (e .exit) (i .exit)) r (afterLines base (s .state))
+
+-- ---- clearing
+
+abbrev pub Clear : Lent → Type 0
+Clear b = now b ≡ replicate (length (now b)) 0
+
+abbrev pub Clears : OverCall → Type 0
+Clears b = now (b .exit) ≡ replicate (length (now (b .entry))) 0
