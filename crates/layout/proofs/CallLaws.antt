@@ -1,5 +1,5 @@
 -- The whole call: each stage gets what it asks from the one before it, and their answers together are the definition's.
-use Prim.Native.Nat.{ℕ, suc, _+_, _*_, _-_, _≤_, _<_}
+use Prim.Native.Nat.{ℕ, _+_, _*_, _-_, _≤_, _<_}
 use native.Mathlib.Omega.{arith}
 use mathlib.Core.Path.{_≡_, refl, sym, ap, subst, _∙_}
 use mathlib.Core.List.{List, [], _∷_, _++_, map, append-nil}
@@ -11,8 +11,8 @@ use Rattle.layout.specs.declared.state.Counters.{Counters}
 use Rattle.layout.specs.declared.addresses.Starts.{Starts}
 use Rattle.layout.specs.declared.rounds.Resolved.the-variants as resolved
 use Rattle.layout.specs.declared.emit.EmitStep.the-variants as step
-use Rattle.layout.specs.declared.state.Section.the-variants as section
 use Rattle.layout.specs.declared.assembler.Counts as counted
+use Rattle.layout.specs.declared.assembler.Answer as answered
 use Rattle.layout.specs.declared.assembler.Laid.{Laid}
 use Rattle.layout.specs.declared.assembler.Laid.the-variants as laid
 use Rattle.layout.specs.declared.stage.Stage.the-variants as stage
@@ -24,12 +24,11 @@ use Rattle.layout.specs.Pieces.{lines, linePieces}
 use Rattle.layout.specs.Stage.{lineStage}
 use Rattle.layout.specs.Demands.{Demanded}
 use Rattle.layout.specs.State.{State, start}
-use Rattle.layout.specs.Addresses.{placed, ordered, sectionStart, labelAddress, fill}
+use Rattle.layout.specs.Addresses.{placed, ordered, labelAddress, fill}
 use Rattle.layout.specs.Rounds.{Found, Known, constant, turn, Turns}
 use Rattle.layout.specs.Records.{fieldBytes, tableOf}
 use Rattle.layout.specs.Layouts.{checkBytes, layoutOf, Answer, answerOf, callOf, noCounts, zeroBuffers}
-use Rattle.layout.specs.Layouts.{Layout, Buffers, Emitted, emit, consFound, foundEquates, resolve, layout, afterLines, countsOf, buffersOf, labelRow, equateRow, itemRow}
-use Rattle.layout.specs.code.Steps.{Some}
+use Rattle.layout.specs.Layouts.{Layout, Buffers, Emitted, emit, consFound, foundEquates, resolve, layout, afterLines, buffersOf, equateRow}
 use Rattle.layout.specs.code.Fits.{Each}
 use Rattle.layout.specs.code.Stands.{Store, store, Stands, startCounters, StageAgrees}
 use Rattle.layout.specs.code.Checks.{BytesAgree}
@@ -38,7 +37,7 @@ use Rattle.layout.specs.code.Names.{Scope, knownFields}
 use Rattle.layout.specs.code.Orders.{LabelTable}
 use Rattle.layout.specs.code.Symbols.{SymbolsStand, Symbols, symbolsOf, SymbolsLeft, SymbolsAgree}
 use Rattle.layout.specs.code.Emits.{Unemitted, emittedIn, EmitLeft, EmitAgrees}
-use Rattle.layout.specs.code.Calls.{buffers, lengths, countsIn, answerIn, LaidLeft, LaidAgrees, linesOf, LinesRead}
+use Rattle.layout.specs.code.Calls.{buffers, lengths, answerIn, refusedAnswer, LaidLeft, LaidAgrees, linesOf, LinesRead}
 use Rattle.layout.specs.Calls.{Assembled}
 use Rattle.numbers.proofs.Bools.{none-some}
 use Rattle.layout.proofs.Gives.{Comes}
@@ -101,9 +100,6 @@ module _ {t : List ℕ} {base : ℕ} {st : Counters} {l n e x i d lw w : List �
         index-room = omega (arith, length-replicate {A = ℕ} 1280 0);
         waits-room = omega (arith, length-replicate {A = ℕ} 256 0);
       }
-
-  pub starts-of : (r : Starts) → ((τ : State) → length (τ .rest .own .stored .bytes) ≡ st .rest .own .stored .bytes → StartsAt r base τ) → StartsAt r base σ
-  starts-of r f = f σ (sym (s .stands .rest .own .stored .counted))
 
   pub few-labels : st .labels * labelSize ≤ 16384
   few-labels = omega (arith, s .stands .labels .counted, s .stands .labels .fits .few, s .stands .labels .limit)
@@ -316,9 +312,6 @@ module _ (t : List ℕ) (base : ℕ) (k : Lent) (b : Buffers) where
 
 -- ---- the answer
 
-abbrev none-counted : counted.Counts
-none-counted = record { words = 0; «data_bytes» = 0; «data_base» = 0; «bss_size» = 0; labels = 0; equates = 0; items = 0; evaluations = 0 }
-
 module _ (t : List ℕ) (base : ℕ) (k : Lent) where
   assembled : (a : Answer) → a ≡ callOf t base k → Assembled t base k a
   assembled a e = record { given = e; demanded = subst (Demanded t base k) (sym e) (demanded t base k) }
@@ -357,13 +350,13 @@ module _ (t : List ℕ) (base : ℕ) (b₀ b₁ b : Buffers) (same : lengths b�
           λ j. record { number = 0; line = 0; counts = q .counts j; buffers = left j }
 
   pub call-refused : (n line : ℕ) → LaidAgrees b (laid.Refused n line) (layoutOf t base (lengths b₁)) → (b′ : Buffers) → b′ ≡ zeroBuffers (lengths b)
-      → Assembled t base (lengths b₀) (answerIn (record { number = n; line = line; counts = none-counted }) b′)
-  call-refused n line a b′ zeros = assembled t base (lengths b₀) _ (by (layoutOf t base (lengths b₀)) (rw same at a))
+      → (r : answered.Answer) → r ≡ refusedAnswer n line → Assembled t base (lengths b₀) (answerIn r b′)
+  call-refused n line a b′ zeros r is = assembled t base (lengths b₀) _ (ap (λ (z : answered.Answer). answerIn z b′) is ∙ by (layoutOf t base (lengths b₀)) (rw same at a))
     where
       left : b′ ≡ zeroBuffers (lengths b₀)
       left = zeros ∙ ap zeroBuffers (kept ∙ same)
 
       by : (o : Result Refusal Layout) → LaidAgrees b (laid.Refused n line) o
-          → answerIn (record { number = n; line = line; counts = none-counted }) b′ ≡ answerOf (lengths b₀) o
+          → answerIn (refusedAnswer n line) b′ ≡ answerOf (lengths b₀) o
       by (value x) q = absurd q
-      by (refused r) q = λ j. record { number = q .0 j; line = q .1 j; counts = noCounts; buffers = left j }
+      by (refused x) q = λ j. record { number = q .0 j; line = q .1 j; counts = noCounts; buffers = left j }

@@ -1,26 +1,24 @@
 -- The items' words, item by item: what is emitted so far, carried on over the items that are left, is what all of them emit.
-use Prim.Native.Nat.{ℕ, suc, _+_, _-_, _*_, _^_, _≤_, _<_}
+use Prim.Native.Nat.{ℕ, _+_, _-_, _*_, _≤_, _<_}
 use native.Mathlib.Nat.{sub-zero}
-use native.Mathlib.Numerals.{add-one}
 use native.Mathlib.Omega.{arith}
 use mathlib.Core.Path.{_≡_, refl, sym, ap, ap₂, subst, _∙_}
 use mathlib.Core.List.{List, [], _∷_, _++_, map, append-assoc, append-nil}
-use mathlib.Core.Option.{Option, none, some}
-use lib.ListN.{length, take, drop, getD, set, length-append, length-map}
+use mathlib.Core.Option.{Option}
+use lib.ListN.{length, take, drop, getD, length-append}
 use lib.Seq.{set-at, getD-append-seam}
 use lib.IntN.{ℤ}
-use Rattle.numbers.specs.Results.{Result, value, refused, andThen}
+use Rattle.numbers.specs.Results.{Result, value, refused}
 use Rattle.numbers.specs.code.Spans.{spanned}
 use Rattle.layout.specs.declared.records.ItemRecord.{ItemRecord}
 use Rattle.layout.specs.declared.pseudo.Pseudo.{Pseudo}
 use Rattle.layout.specs.Bytes.{le, put, padded, together}
-use Rattle.layout.specs.Refusals.{Refusal, atLine}
 use Rattle.layout.specs.Limits.{textLimit, wordLimit, itemLimit, itemSize}
 use Rattle.layout.specs.Pieces.{piece}
 use Rattle.layout.specs.Pseudos.{itemKind, reservedWords}
 use Rattle.layout.specs.State.{ItemLine}
 use Rattle.layout.specs.Records.{four, fieldBytes, itemFields, itemRecordAt, tableOf}
-use Rattle.layout.specs.Layouts.{ItemAt, Emitted, emission, itemAt, emit, itemRow}
+use Rattle.layout.specs.Layouts.{ItemAt, emission, itemAt, emit, itemRow}
 use Rattle.layout.specs.Addresses.{addressAt, labelAddress}
 use Rattle.layout.specs.Rounds.{constant}
 use Rattle.layout.specs.declared.addresses.Starts.{Starts}
@@ -33,7 +31,6 @@ use Rattle.layout.specs.code.Expands.{WordsPut, emissionIn, sourceSpan, 
 use Rattle.layout.specs.declared.emit.EmitStep.the-variants as step
 use Rattle.layout.specs.declared.state.Section.the-variants as section
 use Rattle.layout.specs.code.Stands.{itemSoFar}
-use Rattle.layout.proofs.Each.{each-append}
 use Rattle.layout.proofs.ByteLaws.{length-put, put-lent, put-pad}
 use Rattle.layout.proofs.TableLaws.{table-set, table-lent, read-four}
 use Rattle.layout.proofs.Gives.{Comes}

@@ -19,7 +19,7 @@ ghost use Rattle.layout.specs.Limits.{baseLimit, textLimit};
 ghost use Rattle.layout.specs.Layouts.{checkBytes, layoutOf};
 ghost use Rattle.layout.specs.Calls.{Assembled};
 ghost use Rattle.layout.specs.code.Checks.{anyHigh, BytesAgree};
-ghost use Rattle.layout.specs.code.Calls.{LinesReady, LinesGive, LaidAgrees, Clear, Clears, linesOf, buffersNow, lengths, answerIn};
+ghost use Rattle.layout.specs.code.Calls.{LinesReady, LinesGive, LaidAgrees, Clear, Clears, linesOf, buffersNow, lengths, answerIn, refusedAnswer};
 
 // What is counted of a layout; after a refusal every count is 0.
 pub struct Counts {
@@ -294,6 +294,27 @@ fn clear(
     clear_bytes(items);
 }
 
+// A refusal with its line: every lent output is all zeros and every count 0.
+fn refuse(
+    number: u8,
+    line: u32,
+    words: &mut [u32],
+    data_bytes: &mut [u8],
+    labels: &mut [u8],
+    equates: &mut [u8],
+    items: &mut [u8],
+) -> Answer
+    ensures { λ r. ⌜ (r ≡ refusedAnswer number line)
+        × Clears words × Clears «data_bytes» × Clears labels × Clears equates × Clears items ⌝ }
+{
+    clear(words, data_bytes, labels, equates, items);
+    Answer {
+        number,
+        line,
+        counts: Counts::NONE,
+    }
+}
+
 // A source at a base, laid out into the buffers that are lent: whatever they held, and however long they are.
 pub fn assemble(
     text: &[u8],
@@ -316,12 +337,7 @@ pub fn assemble(
             counts,
         },
         Laid::Refused(number, line) => {
-            clear(words, data_bytes, labels, equates, items);
-            Answer {
-                number,
-                line,
-                counts: Counts::NONE,
-            }
+            refuse(number, line, words, data_bytes, labels, equates, items)
         }
     }
 }

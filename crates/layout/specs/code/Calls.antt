@@ -54,6 +54,15 @@ countsIn c =
 abbrev pub answerIn : answered.Answer → Buffers → Answer
 answerIn r b = record { number = r .number; line = r .line; counts = countsIn (r .counts); buffers = b }
 
+-- a refusal's answer
+abbrev pub refusedAnswer : ℕ → ℕ → answered.Answer
+refusedAnswer n line =
+    record {
+      number = n;
+      line = line;
+      counts = record { words = 0; «data_bytes» = 0; «data_base» = 0; «bss_size» = 0; labels = 0; equates = 0; items = 0; evaluations = 0 };
+    }
+
 -- the lent buffers when the call begins and when it ends
 abbrev pub buffersNow : Lent → Lent → Lent → Lent → Lent → Buffers
 buffersNow w d l e i = buffers (now w) (now d) (now l) (now e) (now i)

@@ -1,3 +1,4 @@
+-- `emit::emit_items`: what is emitted so far, carried on over the items that are left, is what all of them emit.
 use Prim.Native.Nat.{_-_}
 use mathlib.Core.Path.{refl}
 use native.Mathlib.Omega.{arith}
@@ -8,12 +9,6 @@ use Rattle.layout.proofs.SpanLaws.{spanned-size}
 use borrow.Author.Needs.{needs}
 use Rattle.layout.proofs.emit.emit_items.Statement.{statement}
 use Rattle.layout.proofs.emit.emit_items.Tie as tie
-use Rattle.layout.proofs.emit.emit_items.Reads as reads
-use Rattle.layout.proofs.emit.emit_items.Lts as lts
-use Rattle.layout.proofs.addresses.Starts.address.Reads as address-reads
-use Rattle.layout.proofs.emit.emit_item.Reads as emit-item-reads
-use Rattle.layout.proofs.records.get_item.Reads as get-item-reads
-use Rattle.layout.proofs.records.put_item.Reads as put-item-reads
 
 abbrev Inv-loop : tie.InvT-loop
 Inv-loop text labels label-index label-count equates equate-index equate-count scratch₀ starts items₀ count words₀ at₀ k₀ scratch items words at k =
@@ -23,31 +18,21 @@ abbrev μ-loop : tie.MeasureT-loop
 μ-loop text labels label-index label-count equates equate-index equate-count scratch₀ starts items₀ count words₀ at₀ k₀ scratch items words at k =
     count - k
 
--- src/emit.rt:224:5
 loop-holds : tie.Need-loop-holds Inv-loop μ-loop
 loop-holds c = emit-first
 
--- src/emit.rt:225:13
 get-item-requires : tie.Need-get-item-requires Inv-loop μ-loop
 get-item-requires c κs = emit-lent (c .before .before .before .before .before .before .before .before .before .before .before .pre .0) (c .before .before .loop .inv) (c .before .loop-test .taken)
 
--- src/emit.rt:236:13
 mul-emit-item : tie.Need-mul-emit-item Inv-loop μ-loop
 mul-emit-item c = omega (arith, emit-low (c .before .before .before .before .before .before .before .before .before .before .before .before .before .pre .0) (c .before .before .before .before .loop .inv))
 
--- src/emit.rt:236:13
 sub-emit-item : tie.Need-sub-emit-item Inv-loop μ-loop
 sub-emit-item c = omega (arith, emit-within (c .before .before .before .before .before .before .before .before .before .before .before .before .before .pre .0) (c .before .before .before .before .loop .inv))
 
--- src/emit.rt:236:13
 part-emit-item-start : tie.Need-part-emit-item-start Inv-loop μ-loop
 part-emit-item-start c = omega (arith, emit-within (c .before .before .before .before .before .before .before .before .before .before .before .before .before .pre .0) (c .before .before .before .before .loop .inv))
 
--- src/emit.rt:236:13
-part-emit-item-end : tie.Need-part-emit-item-end Inv-loop μ-loop
-part-emit-item-end c = search needs
-
--- src/emit.rt:226:15
 emit-item-requires : tie.Need-emit-item-requires Inv-loop μ-loop
 emit-item-requires c κs =
     let u = c .before .before .before .before .before .before .before .before .before .before .before .before .before .before .pre .0 in
@@ -58,37 +43,23 @@ emit-item-requires c κs =
       emit-fits u inv (c .before .before .before .before .loop-test .taken) (item .result) (item .ensures) _ (length-mid _ (c .before .before .before .before .before .loop .words)),
     )
 
--- src/emit.rt:238:24
-enum-known-n : tie.Need-enum-known-n Inv-loop μ-loop
-enum-known-n c = search needs
-
--- src/emit.rt:240:30
 address-requires : tie.Need-address-requires Inv-loop μ-loop
 address-requires c κs = emit-coded (c .before .before .before .before .before .before .before .before .before .before .before .before .before .before .before .before .before .before .before .before .before .before .pre .0) (c .before .before .before .before .before .before .before .before .before .before .before .before .before .loop .inv) (c .before .before .before .before .before .before .before .before .before .before .before .before .loop-test .taken) (c .before .before .before .before .before .before .before .before .before .before .get-item .result) (c .before .before .before .before .before .before .before .before .before .before .get-item .ensures)
 
--- src/emit.rt:243:28
 cast-t31 : tie.Need-cast-t31 Inv-loop μ-loop
 cast-t31 c = omega (arith, emit-low (c .before .before .before .before .before .before .before .before .before .before .before .before .before .before .before .before .before .before .before .before .before .before .before .pre .0) (c .before .before .before .before .before .before .before .before .before .before .before .before .before .before .loop .inv))
 
--- src/emit.rt:247:17
 put-item-requires : tie.Need-put-item-requires Inv-loop μ-loop
 put-item-requires c κs = emit-lent (c .before .before .before .before .before .before .before .before .before .before .before .before .before .before .before .before .before .before .before .before .before .before .before .before .pre .0) (c .before .before .before .before .before .before .before .before .before .before .before .before .before .before .before .loop .inv) (c .before .before .before .before .before .before .before .before .before .before .before .before .before .before .loop-test .taken)
 
--- src/emit.rt:248:17
 add-at : tie.Need-add-at Inv-loop μ-loop
 add-at c =
     let item = c .before .before .before .before .before .before .before .before .before .before .before .before .before .before .before .get-item in
     omega (arith, emit-more (c .before .before .before .before .before .before .before .before .before .before .before .before .before .before .before .before .before .before .before .before .before .before .before .before .before .before .before .pre .0) (c .before .before .before .before .before .before .before .before .before .before .before .before .before .before .before .before .before .before .loop .inv) (c .before .before .before .before .before .before .before .before .before .before .before .before .before .before .before .before .before .loop-test .taken) (item .result) (item .ensures) _ _ _ (rw (c .before .before .before .before .before .before .n .given .1) at (c .before .before .before .before .before .before .before .before .before .before .before .before .emit-item .ensures)))
 
--- src/emit.rt:249:17
 add-k : tie.Need-add-k Inv-loop μ-loop
 add-k c = omega (arith, c .before .before .before .before .before .before .before .before .before .before .before .before .before .before .before .before .before .loop-test .taken, emit-few (c .before .before .before .before .before .before .before .before .before .before .before .before .before .before .before .before .before .before .before .before .before .before .before .before .before .before .before .pre .0))
 
--- src/emit.rt:224:5
-loop-less : tie.Need-loop-less Inv-loop μ-loop
-loop-less c = search needs
-
--- src/emit.rt:224:5
 loop-again : tie.Need-loop-again Inv-loop μ-loop
 loop-again c =
     let item = c .before .before .before .before .before .before .before .before .before .before .before .before .before .before .before .get-item in
@@ -103,41 +74,11 @@ loop-again c =
       emitting = λ u. emit-goes u inv more (item .result) (item .ensures) _ _ _ (rw (c .before .before .before .before .before .before .n .given .1) at (c .before .before .before .before .before .before .before .before .before .before .before .before .emit-item .ensures)) refl _ (c .before .before .before .before .address .ensures) _ (put .kept .0) (put .ensures);
     }
 
--- src/emit.rt:251:25
-enum-known-n-2 : tie.Need-enum-known-n-2 Inv-loop μ-loop
-enum-known-n-2 c = search needs
-
--- src/emit.rt:252:17
-same-length : tie.Need-same-length Inv-loop μ-loop
-same-length c = search needs
-
--- src/emit.rt:252:17
-same-length-2 : tie.Need-same-length-2 Inv-loop μ-loop
-same-length-2 c = search needs
-
--- src/emit.rt:252:17
-same-length-3 : tie.Need-same-length-3 Inv-loop μ-loop
-same-length-3 c = search needs
-
--- src/emit.rt:252:17
 returns : tie.Need-returns Inv-loop μ-loop
 returns c =
     let item = c .before .before .before .before .before .before .before .before .before .before .get-item in
     λ u. emit-stops u (c .before .before .before .before .before .before .before .before .before .before .before .before .before .loop .inv) (c .before .before .before .before .before .before .before .before .before .before .before .before .loop-test .taken) (item .result) (item .ensures) _ _ _ (rw (c .before .n2 .given .1) at (c .before .before .before .before .before .before .before .emit-item .ensures)) _ _
 
--- src/emit.rt:205:1
-same-length-4 : tie.Need-same-length-4 Inv-loop μ-loop
-same-length-4 c = search needs
-
--- src/emit.rt:205:1
-same-length-5 : tie.Need-same-length-5 Inv-loop μ-loop
-same-length-5 c = search needs
-
--- src/emit.rt:205:1
-same-length-6 : tie.Need-same-length-6 Inv-loop μ-loop
-same-length-6 c = search needs
-
--- src/emit.rt:205:1
 returns-2 : tie.Need-returns-2 Inv-loop μ-loop
 returns-2 c = λ u. emit-ends u (c .before .loop .inv) (c .loop-test .left)
 
@@ -152,22 +93,22 @@ emit-items-spec =
     mul-emit-item
     sub-emit-item
     part-emit-item-start
-    part-emit-item-end
+    (λ c. search needs)  -- part-emit-item-end
     emit-item-requires
-    enum-known-n
+    (λ c. search needs)  -- enum-known-n
     address-requires
     cast-t31
     put-item-requires
     add-at
     add-k
-    loop-less
+    (λ c. search needs)  -- loop-less
     loop-again
-    enum-known-n-2
-    same-length
-    same-length-2
-    same-length-3
+    (λ c. search needs)  -- enum-known-n-2
+    (λ c. search needs)  -- same-length
+    (λ c. search needs)  -- same-length-2
+    (λ c. search needs)  -- same-length-3
     returns
-    same-length-4
-    same-length-5
-    same-length-6
+    (λ c. search needs)  -- same-length-4
+    (λ c. search needs)  -- same-length-5
+    (λ c. search needs)  -- same-length-6
     returns-2)
