@@ -1,9 +1,14 @@
 # compass.s - an arrow to the teammate who was asked for.
 #
-# The service port, or the radio part, sends a bearing as decimal digits and a
-# line feed. The routine finds the sector of 45 degrees, draws its arrow from
-# the table of pictures, and names the direction. A bearing of 360 or more, or
-# no digit at all, shows a blank picture and a dash.
+# The display shows an arrow of 8 by 8 dots in one of eight directions, and in
+# the text row `GO `, the direction's name and the bearing in degrees.
+#
+# The radio part sends the bearing as decimal digits and a line feed. The
+# routine finds its sector of 45 degrees and takes the arrow and the name out
+# of tables. For a bearing of 360 or more, or without a digit, the display
+# shows no arrow, a dash for the name, and no degrees.
+#
+# The frame holds one byte a dot, 1 for a bright one, from the top left corner.
 
 .globl draw_compass
 
@@ -13,22 +18,22 @@ draw_compass:
         push s0
         push s1
         read line               # at most 256 bytes; a0 is how many came
-        call read_bearing       # a0 is the bearing, or -1
+        jal ra, read_bearing    # a0 is the bearing, or -1
         la t0, last
         sw a0, 0(t0)
-        call sector_of
-        mv s0, a0               # s0 is the sector, 8 for none
+        jal ra, sector_of
+        addi s0, a0, 0          # s0 is the sector, 8 for none
 
         slli s1, s0, 2          # four bytes a pointer
         la t0, pictures
         add t0, t0, s1
         lw a0, 0(t0)
-        call draw_picture
+        jal ra, draw_picture
 
         la t0, labels
         add t0, t0, s1
         lw a0, 0(t0)
-        call show_label
+        jal ra, show_label
 
         # What follows the name depends on the sector: a table of routines.
         la t0, tails
@@ -38,7 +43,7 @@ draw_compass:
         pop s1
         pop s0
         pop ra
-        ret
+        jalr x0, ra, 0
 
 # read_bearing - the digits at the start of the line, a0 bytes long. The
 # result is -1 without a digit or from 360 on.
@@ -46,13 +51,13 @@ read_bearing:
         la t0, line
         add t1, t0, a0          # behind the last byte
         li a0, 0
-        mv t5, t0
+        addi t5, t0, 0
 bearing_digit:
         bgeu t0, t1, bearing_end
         lbu t2, 0(t0)
         addi t2, t2, -48
         sltiu t3, t2, 10
-        beqz t3, bearing_end
+        beq t3, x0, bearing_end
         li t4, 10
         mul a0, a0, t4
         add a0, a0, t2
@@ -60,18 +65,18 @@ bearing_digit:
         lhu t4, 0(t4)
         bgeu a0, t4, bearing_bad
         addi t0, t0, 1
-        j bearing_digit
+        jal x0, bearing_digit
 bearing_end:
         bne t0, t5, bearing_good
 bearing_bad:
         li a0, -1
 bearing_good:
-        ret
+        jalr x0, ra, 0
 
 # sector_of - bearing a0 to its sector 0 to 7, clockwise from north; 8 for -1.
 # The sectors' first bearings stand in a table because they lie at halves.
 sector_of:
-        bltz a0, sector_none
+        blt a0, x0, sector_none
         la t0, starts
         li t1, 0
 sector_next:
@@ -79,13 +84,13 @@ sector_next:
         bltu a0, t2, sector_found
         addi t0, t0, 2
         addi t1, t1, 1
-        j sector_next           # the last start is beyond every bearing
+        jal x0, sector_next     # the last start is beyond every bearing
 sector_found:
         andi a0, t1, 7          # the ninth piece is north again
-        ret
+        jalr x0, ra, 0
 sector_none:
         li a0, 8
-        ret
+        jalr x0, ra, 0
 
 # draw_picture - eight bytes at a0, a row each, top first; a bit is a dot.
 draw_picture:
@@ -101,11 +106,11 @@ picture_dot:
         andi t2, t2, 255
         addi t0, t0, 1
         addi t3, t3, -1
-        bnez t3, picture_dot
+        bne t3, x0, picture_dot
         addi a0, a0, 1
         addi t1, t1, -1
-        bnez t1, picture_row
-        ret
+        bne t1, x0, picture_row
+        jalr x0, ra, 0
 
 # show_label - copy the name at a0 into the caption and send it.
 show_label:
@@ -117,16 +122,16 @@ label_byte:
         addi a0, a0, 1
         addi t0, t0, 1
         addi t1, t1, -1
-        bnez t1, label_byte
+        bne t1, x0, label_byte
         print_str caption
-        ret
+        jalr x0, ra, 0
 
 tail_degrees:                   # the number too, except where there is none
         la t0, last
         lw t1, 0(t0)
         print t1
 tail_none:
-        ret
+        jalr x0, ra, 0
 
 .data
 limit:  .half 360

@@ -1,9 +1,12 @@
-# grid.s - the grid screen: one square for each 100 metres, and in it a
-# bright block for each teammate who stands there.
+# grid.s - the grid screen: where each teammate stands.
 #
-# The display is 64 dots wide and 48 high. Its frame holds one byte a dot,
-# row by row from the north-west corner. The grid has 8 squares across and
-# 6 down, each 8 by 8 dots; the first dot row and column of a square are line.
+# The display shows dim lines, 8 squares across and 6 down, a square for each
+# 100 metres, north at the top; in a square a bright block for the teammate who
+# stands there; and in the text row how many are off the grid, if any are.
+#
+# The display is 64 dots wide and 48 high. Its frame holds one byte a dot, the
+# dot's brightness, row by row from the north-west corner. A square is 8 by 8
+# dots; its first dot row and its first dot column are line.
 #
 # Called from the radio's main loop. Keeps the s registers, as all here do.
 
@@ -14,8 +17,8 @@ draw_grid:
         push ra
         push s0
         push s1
-        call clear_frame
-        call draw_lines
+        jal ra, clear_frame
+        jal ra, draw_lines
 
         la s0, team             # s0 walks the team's table
         la s1, team_end
@@ -24,33 +27,33 @@ next_mate:
         lbu a0, 0(s0)           # column, west to east
         lbu a1, 1(s0)           # row, north to south
         lbu a2, 2(s0)           # brightness
-        call draw_mate
+        jal ra, draw_mate
         addi s0, s0, 3          # three bytes a teammate
-        j next_mate
+        jal x0, next_mate
 
 all_drawn:
         la t1, off_grid
         lw s0, 0(t1)
-        beqz s0, grid_done
-        print_str off_text      # for the service port only
+        beq s0, x0, grid_done
+        print_str off_text
         print s0
 grid_done:
         pop s1
         pop s0
         pop ra
-        ret
+        jalr x0, ra, 0
 
 # clear_frame - every dot dark, and nobody counted off the grid.
 clear_frame:
         la t0, frame
         la t1, frame_end
 clear_word:
-        sw zero, 0(t0)          # four dots at a time
+        sw x0, 0(t0)            # four dots at a time
         addi t0, t0, 4
         bltu t0, t1, clear_word
         la t0, off_grid
-        sw zero, 0(t0)
-        ret
+        sw x0, 0(t0)
+        jalr x0, ra, 0
 
 # draw_lines - a dim dot wherever the row or the column is a multiple of 8.
 draw_lines:
@@ -63,9 +66,9 @@ line_row:
         li t2, 0                # t2 is the dot's column
 line_dot:
         andi t3, t1, 7
-        beqz t3, line_on
+        beq t3, x0, line_on
         andi t3, t2, 7
-        bnez t3, line_off
+        bne t3, x0, line_off
 line_on:
         sb t6, 0(t0)
 line_off:
@@ -74,16 +77,16 @@ line_off:
         blt t2, t5, line_dot
         addi t1, t1, 1
         blt t1, t4, line_row
-        ret
+        jalr x0, ra, 0
 
 # draw_mate - a block of 5 by 5 dots in the middle of a square.
 # a0 column, a1 row, a2 brightness. Someone outside the grid is counted and
 # not drawn: a wrong square is worse than none.
 draw_mate:
         sltiu t0, a0, 8
-        beqz t0, mate_outside
+        beq t0, x0, mate_outside
         sltiu t0, a1, 6
-        beqz t0, mate_outside
+        beq t0, x0, mate_outside
         slli a1, a1, 3          # the square's first dot row
         addi a1, a1, 2          # two below the line
         slli a1, a1, 6          # 64 dots a row
@@ -99,17 +102,17 @@ mate_dot:
         sb a2, 0(t0)
         addi t0, t0, 1
         addi t2, t2, -1
-        bnez t2, mate_dot
+        bne t2, x0, mate_dot
         addi t0, t0, 59         # on to the next row: 64 less the 5 drawn
         addi t1, t1, -1
-        bnez t1, mate_row
-        ret
+        bne t1, x0, mate_row
+        jalr x0, ra, 0
 mate_outside:
         la t0, off_grid
         lw t1, 0(t0)
         addi t1, t1, 1
         sw t1, 0(t0)
-        ret
+        jalr x0, ra, 0
 
 .data
 # Column, row and brightness of each teammate. The radio part overwrites the

@@ -1,9 +1,11 @@
 # names.s - the text screen: who is in the team, and in which direction.
 #
-# Six rows of 16 characters, each row ended by a line feed (10), the whole
-# screen ended by a zero, so that it can be sent as one string. A row holds a
-# name in its first ten columns and a bearing, 000 to 359, in columns 12 to 14.
-# The keys `u` and `d` move the list up and down by one name.
+# The display shows six rows of 16 characters. A row holds a teammate's name in
+# columns 1 to 10 and the bearing, 000 to 359, in columns 13 to 15. The keys `u`
+# and `d` move the list up and down by one name; rows behind its end are blank.
+#
+# Each row is ended by a line feed (10), the whole screen by a zero, so that it
+# is sent as one string.
 
 .globl show_names
 
@@ -15,8 +17,8 @@ show_names:
         push s2
 
         read_byte key
-        call move_list
-        call blank_screen
+        jal ra, move_list
+        jal ra, blank_screen
 
         la t0, first
         lw s0, 0(t0)            # s0 is the teammate's number
@@ -26,9 +28,9 @@ name_row:
         la t0, count
         lw t0, 0(t0)
         bgeu s0, t0, names_done # the list is shorter than the screen
-        mv a0, s0
-        mv a1, s2
-        call write_row
+        addi a0, s0, 0
+        addi a1, s2, 0
+        jal ra, write_row
         addi s0, s0, 1
         addi s1, s1, 1
         addi s2, s2, 17         # 16 characters and the line feed
@@ -37,12 +39,12 @@ name_row:
 
 names_done:
         print_str screen
-        call choose_wait
+        jal ra, choose_wait
         pop s2
         pop s1
         pop s0
         pop ra
-        ret
+        jalr x0, ra, 0
 
 # move_list - follow the key, but stay within the list.
 move_list:
@@ -59,13 +61,13 @@ move_list:
         addi t3, t3, 1
         bgeu t3, t5, move_done
         sw t3, 0(t2)
-        ret
+        jalr x0, ra, 0
 move_up:
-        beqz t3, move_done
+        beq t3, x0, move_done
         addi t3, t3, -1
         sw t3, 0(t2)
 move_done:
-        ret
+        jalr x0, ra, 0
 
 # blank_screen - six rows of blanks with their line feeds, then the zero.
 blank_screen:
@@ -79,13 +81,13 @@ blank_cell:
         sb t3, 0(t0)
         addi t0, t0, 1
         addi t2, t2, -1
-        bnez t2, blank_cell
+        bne t2, x0, blank_cell
         sb t4, 0(t0)
         addi t0, t0, 1
         addi t1, t1, -1
-        bnez t1, blank_row
-        sb zero, 0(t0)
-        ret
+        bne t1, x0, blank_row
+        sb x0, 0(t0)
+        jalr x0, ra, 0
 
 # write_row - teammate number a0 into the row that begins at a1.
 write_row:
@@ -95,7 +97,7 @@ write_row:
         la t1, members
         add t1, t1, t0
         lhu a0, 10(t1)          # the bearing stands after the name
-        mv t2, a1
+        addi t2, a1, 0
         li t3, 10
 copy_name:
         lbu t4, 0(t1)
@@ -103,11 +105,11 @@ copy_name:
         addi t1, t1, 1
         addi t2, t2, 1
         addi t3, t3, -1
-        bnez t3, copy_name
-        addi a1, a1, 14         # the last digit's column
-        call write_bearing
+        bne t3, x0, copy_name
+        addi a1, a1, 14         # the last digit's place, column 15
+        jal ra, write_bearing
         pop ra
-        ret
+        jalr x0, ra, 0
 
 # write_bearing - a0 as three digits, the last of them at a1.
 write_bearing:
@@ -116,12 +118,12 @@ write_bearing:
 digit:
         remu t2, a0, t1
         divu a0, a0, t1
-        addi t2, t2, '0'
+        addi t2, t2, 48         # the code of the digit 0
         sb t2, 0(a1)
         addi a1, a1, -1
         addi t0, t0, -1
-        bnez t0, digit
-        ret
+        bne t0, x0, digit
+        jalr x0, ra, 0
 
 # choose_wait - how long to wait before our own position goes out, 200 to
 # 1223 milliseconds. It is random so that two sets do not keep colliding.
@@ -131,7 +133,7 @@ choose_wait:
         addi t1, t1, 200
         la t2, wait
         sw t1, 0(t2)
-        ret
+        jalr x0, ra, 0
 
 .data
 # Twelve bytes a teammate: ten of name, padded with blanks, and the bearing.

@@ -1,117 +1,103 @@
-# panel.s - the status panel in the lower part of the screen, with its title
-# and the charge of the battery. Every place and length is an equate, so a
-# team that orders another size changes the numbers marked ORDER, and the
+# panel.s - the status panel: how much charge the battery has.
+#
+# The display shows text, 32 columns by 12 rows. In its lower part stands the
+# panel, 28 columns wide: an edge of equals signs, the title, a bar of 20 cells,
+# a star for each twentieth of the charge and a dot for what is used up, and the
+# edge again. The rest is blank.
+#
+# Every place is an equate computed from labels, from `.` and from other equates.
+# A team that orders another size changes the numbers marked ORDER, and the
 # frame's .space at the end, which takes a plain number only.
 #
-# A small equate is loaded by addi, not by li: li sets two words aside for any
-# name and emits one if the value is small, which would put every later label
-# one word off. The li lines below name addresses, which are never small here.
+# The li lines below name addresses. A small equate is never loaded by li: li
+# sets two words aside for any name and emits one if the value is small, which
+# would put every later label one word off. So a length is found as the distance
+# of two addresses. An equate above 2147483647 is refused by li: the routine
+# needs a base below that.
 
 .globl draw_panel
 
 .equ COLS, 32                   # ORDER: characters in a row
-.equ TOP 7                      # ORDER: the panel's first row
+.equ ABOVE 224                  # ORDER: cells above the panel, 7 rows of them
 .set MARGIN, 2                  # ORDER: free columns on either side
-.set BAR, 20                    # ORDER: cells of the charge bar
-
-# The sign of the panel's edge. It stands here as its number because a line
-# with an equals sign in it is always an equate.
-EDGE = 61
+.set BAR, 20                    # ORDER: cells of the bar
 
 # These may come in any order; what they use may stand further down.
+FOOT_END = FOOT_AT + WIDTH
+FOOT_AT = BAR_ROW + COLS
+BAR_END = BAR_AT + BAR
+BAR_AT = BAR_ROW + WIDTH - BAR - 1      # as far from the edge as the title
+BAR_ROW = TITLE_ROW + COLS
+TITLE_AT = TITLE_ROW + 1
+TITLE_ROW = EDGE_AT + COLS
+EDGE_END = EDGE_AT + WIDTH
+EDGE_AT = FRAME_AT + ABOVE + LEFT       # the panel's first cell
 WIDTH = RIGHT - LEFT
 RIGHT = COLS - MARGIN
 LEFT = MARGIN
-TITLE_AT = 1                    # columns from the panel's left edge
-BAR_AT = WIDTH - BAR - TITLE_AT # the bar ends as far from the right edge
-ROW_BACK = -COLS
-FRAME_LEN = frame_end - frame
 FRAME_AT = frame
+FRAME_END = frame + FRAME_LEN
 .equ TITLE_END, title + TITLE_LEN
 
 .text
-# draw_panel - a0 is the charge in percent.
+# draw_panel - a0 is the charge in percent; more than 100 counts as 100.
 draw_panel:
         push ra
         push s0
-        push s1
-        mv s0, a0
-        call blank_frame
-        call panel_start        # s1 is the panel's first cell
-        mv s1, a0
+        addi s0, a0, 0
+        li t0, 100
+        bgeu t0, s0, charge_good
+        li s0, 100
+charge_good:
+        li a0, FRAME_AT         # blanks everywhere
+        li a1, FRAME_END
+        li a2, ' '
+        jal ra, fill
+        sb x0, 0(a0)            # and a zero behind the last cell
 
-        # The edge above the title.
-        addi a1, zero, WIDTH
-        addi a2, zero, EDGE
-        call fill
+        li a0, EDGE_AT          # the edge above the title
+        li a1, EDGE_END
+        li a2, 61               # the equals sign by its number: a line with
+        jal ra, fill            # that sign in it is always an equate
 
-        # The title, one row further down.
-        addi s1, s1, COLS
-        addi a0, s1, TITLE_AT
         la t0, title
         li t1, TITLE_END
-        call copy_text
+        li a0, TITLE_AT
+        jal ra, copy_text
 
-        # The bar: full cells for the charge, dots for the rest.
-        addi s1, s1, COLS
-        addi a0, s1, BAR_AT
-        addi t0, zero, BAR
-        mul t0, s0, t0
+        # The bar: stars for the charge, dots for the rest.
+        li a0, BAR_AT
+        li a1, BAR_END
+        sub t0, a1, a0          # how many cells it has
+        mul t0, t0, s0
         li t1, 100
-        divu s0, t0, t1         # s0 is now the count of full cells
-        mv a1, s0
+        divu t0, t0, t1         # how many of them are stars
+        add a1, a0, t0
         li a2, '*'
-        call fill
-        addi a1, zero, BAR
-        sub a1, a1, s0
+        jal ra, fill            # leaves a0 behind the last star
+        li a1, BAR_END
         li a2, '.'
-        call fill
+        jal ra, fill
 
-        # The edge below: two rows down, then back by one to leave no gap.
-        addi s1, s1, COLS
-        addi s1, s1, COLS
-        addi a0, s1, ROW_BACK
-        addi a1, zero, WIDTH
-        addi a2, zero, EDGE
-        call fill
+        li a0, FOOT_AT          # the edge below
+        li a1, FOOT_END
+        li a2, 61
+        jal ra, fill
 
         print_str frame
-        pop s1
         pop s0
         pop ra
-        ret
+        jalr x0, ra, 0
 panel_code = . - draw_panel     # bytes of code, for the order's label
 
-# panel_start - a0 becomes the address of row TOP, column LEFT.
-panel_start:
-        addi t0, zero, TOP
-        addi t1, zero, COLS
-        mul t0, t0, t1
-        addi t0, t0, LEFT
-        li a0, FRAME_AT
-        add a0, a0, t0
-        ret
-
-# blank_frame - blanks everywhere, and a zero behind the last cell.
-blank_frame:
-        push ra
-        li a0, FRAME_AT
-        addi a1, zero, FRAME_LEN
-        li a2, ' '
-        call fill
-        sb zero, 0(a0)
-        pop ra
-        ret
-
-# fill - a1 cells from a0 on get a2; a0 ends behind the last.
+# fill - the cells from a0 up to a1 get a2; a0 ends at a1.
 fill:
-        beqz a1, fill_done
+        bgeu a0, a1, fill_done
         sb a2, 0(a0)
         addi a0, a0, 1
-        addi a1, a1, -1
-        j fill
+        jal x0, fill
 fill_done:
-        ret
+        jalr x0, ra, 0
 
 # copy_text - the bytes from t0 up to t1 go to a0 and on.
 copy_text:
@@ -120,18 +106,19 @@ copy_text:
         sb t2, 0(a0)
         addi t0, t0, 1
         addi a0, a0, 1
-        j copy_text
+        jal x0, copy_text
 copy_done:
-        ret
+        jalr x0, ra, 0
 
 .data
-title:  .ascii "BATTERY AND LINK"
+title:  .ascii "BATTERY CHARGE"
 TITLE_LEN = . - title
 sizes:  .half 32, 12            # columns and rows, as the display is wired
         .align 4
-code:   .word draw_panel, title, frame
+parts:  .word draw_panel, title, frame  # for the repairer's reader
 
 .bss
 frame:  .space 384              # 32 columns times 12 rows
 frame_end:
+FRAME_LEN = frame_end - frame
         .space 4                # room for the zero
