@@ -179,6 +179,14 @@ pub fn all_cases() -> io::Result<String> {
     Ok(file)
 }
 
+/// The reference's word for an instruction of the list, its fields unchecked.
+pub fn reference_word(name: &str, values: Values) -> io::Result<u32> {
+    let operation = OPERATIONS.iter().find(|operation| operation.name() == name);
+    let operation = operation
+        .ok_or_else(|| io::Error::new(io::ErrorKind::InvalidInput, format!("no {name}")))?;
+    encode((operation.instruction)(values)).map_err(io::Error::other)
+}
+
 // ---------- asking ----------
 
 /// Document 01, "Refused because of the input": a register above 31 is 22;

@@ -24,7 +24,9 @@ const USAGE: &str = "usage: differential numbers DIR
        differential layout DIR
        differential layout-stage DIR FILE...
        differential layout-answer FILE BASE
-       differential assemble FILE...";
+       differential assemble FILE...
+       differential assemble-at BASE FILE...
+       differential encode CASE FIELD FIELD FIELD";
 
 fn main() -> ExitCode {
     let arguments: Vec<String> = env::args().skip(1).collect();
@@ -40,7 +42,10 @@ fn main() -> ExitCode {
         ("layout", [directory]) => write_sources(directory),
         ("layout-stage", [directory, files @ ..]) => write_stage(directory, files),
         ("layout-answer", [file, base]) => answer_file(file, base),
-        ("assemble", [_, ..]) => rest.iter().try_for_each(|file| assemble_file(file)),
+        ("assemble", [_, ..]) => rest.iter().try_for_each(|file| assemble_file(file, 0)),
+        ("assemble-at", [base, files @ ..]) if !files.is_empty() => read_base(base)
+            .and_then(|base| files.iter().try_for_each(|file| assemble_file(file, base))),
+        ("encode", [case, fields @ ..]) => encode_fields(case, fields),
         _ => Err(io::Error::new(io::ErrorKind::InvalidInput, USAGE)),
     };
     match done {
@@ -86,11 +91,13 @@ fn print_counts(counts: layout::Counts) {
 /// Prints the layout list's answer for one file at a decimal base.
 fn answer_file(file: &str, base: &str) -> io::Result<()> {
     let source = read_source(file)?;
-    let base = base
-        .parse()
-        .map_err(|error| io::Error::new(io::ErrorKind::InvalidInput, format!("{base}: {error}")))?;
-    println!("{}", layout::answer_line(&source, base));
+    println!("{}", layout::answer_line(&source, read_base(base)?));
     Ok(())
+}
+
+fn read_base(base: &str) -> io::Result<u32> {
+    base.parse()
+        .map_err(|error| io::Error::new(io::ErrorKind::InvalidInput, format!("{base}: {error}")))
 }
 
 fn read_source(file: &str) -> io::Result<String> {
@@ -98,11 +105,11 @@ fn read_source(file: &str) -> io::Result<String> {
         .map_err(|error| io::Error::new(error.kind(), format!("{file}: {error}")))
 }
 
-/// Has the reference lay out one file at base 0 and prints what came of it.
-/// The line is counted from 1, as editors count.
-fn assemble_file(file: &str) -> io::Result<()> {
+/// Has the reference lay out one file and prints what came of it. The line is
+/// counted from 1, as editors count.
+fn assemble_file(file: &str, base: u32) -> io::Result<()> {
     let source = read_source(file)?;
-    match assemble(&source, 0) {
+    match assemble(&source, base) {
         Ok(program) => println!(
             "ok {} {} {}",
             program.text.len(),
@@ -111,5 +118,15 @@ fn assemble_file(file: &str) -> io::Result<()> {
         ),
         Err(error) => println!("no {} {}", error.line + 1, error.msg),
     }
+    Ok(())
+}
+
+/// Prints the word that the reference makes of an instruction, whatever its
+/// fields are.
+fn encode_fields(case: &str, fields: &[String]) -> io::Result<()> {
+    let fields: Result<Vec<i32>, _> = fields.iter().map(|field| field.parse()).collect();
+    let fields = fields.ok().and_then(|fields| fields.try_into().ok());
+    let fields = fields.ok_or_else(|| io::Error::new(io::ErrorKind::InvalidInput, USAGE))?;
+    println!("{:08X}", encoder::reference_word(case, fields)?);
     Ok(())
 }
