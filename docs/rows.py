@@ -1,0 +1,124 @@
+"""The tables of a document, the sources that stand in them, and the Rust reference; for check-refusals and check-differences.
+
+A source in a table is its lines in order, each in a code span, a comma and a blank between them; each line is ended by LF. In a code span `<tab>` and
+`<byte N>` (N decimal) stand for that byte, and `\\|` for `|`. "1,025 lines `aN:`" is so many lines, N counting from 1 in them; "5 blanks" is so many
+blanks; "nothing" is the empty text.
+"""
+import os, re, subprocess, tempfile
+
+ROOT = os.path.normpath(os.path.join(os.path.dirname(os.path.abspath(__file__)), '..'))
+REFERENCE = os.path.join(ROOT, 'differential', 'target', 'release', 'differential')
+
+
+class Row:
+    """A row: its line in the document, the heading it stands under, and its cells by the titles of their columns."""
+    def __init__(self, place, heading, titles, cells):
+        self.place, self.heading, self.titles = place, heading, titles
+        self.cells = dict(zip(titles, cells))
+
+    def __getitem__(self, title):
+        return self.cells[title]
+
+
+def rows(path):
+    """Every row of every table. A row with too few or too many cells is an error."""
+    found, heading, titles = [], '', None
+    for place, line in enumerate(open(path, encoding='utf-8'), 1):
+        if line.startswith('#'):
+            heading = line.strip('# \n')
+        if not line.startswith('|'):
+            titles = None
+            continue
+        cells = [cell.strip().replace('\\|', '|') for cell in re.split(r'(?<!\\)\|', line.strip())[1:-1]]
+        if titles is None:
+            titles = cells
+        elif set(line.strip()) <= set('|- '):
+            pass
+        elif len(cells) != len(titles):
+            raise SystemExit('line %d: %d cells under %d titles' % (place, len(cells), len(titles)))
+        else:
+            found.append(Row(place, heading, titles, cells))
+    return found
+
+
+def spans(cell):
+    """What stands in a cell's code spans."""
+    return re.findall(r'`([^`]*)`', cell)
+
+
+def number(digits):
+    return int(digits.replace(',', ''))
+
+
+def line_bytes(span):
+    """A line's bytes: the document's UTF-8, and the bytes that it names."""
+    parts = re.split(r'<(tab|byte \d+)>', span)
+    named = lambda part: b'\t' if part == 'tab' else bytes([int(part[5:])])
+    return b''.join(named(part) if k % 2 else part.encode('utf-8') for k, part in enumerate(parts))
+
+
+PART = re.compile(r'`([^`]*)`|([\d,]+) lines `([^`]*)`|([\d,]+) blanks|nothing')
+
+
+def source(cell, fewer=0):
+    """The bytes of a cell's source; of what is written as a count, so many fewer. None if the cell is no source."""
+    text, at = b'', 0
+    while True:
+        part = PART.match(cell, at)
+        if part is None:
+            return None
+        line, count, each, blanks = part.group(1), part.group(2), part.group(3), part.group(4)
+        if line is not None:
+            text += line_bytes(line) + b'\n'
+        elif count is not None:
+            text += b''.join(line_bytes(each.replace('N', str(n))) + b'\n' for n in range(1, number(count) - fewer + 1))
+        elif blanks is not None:
+            text += b' ' * (number(blanks) - fewer)
+        at = part.end()
+        if at == len(cell):
+            return text
+        if not cell.startswith(', ', at):
+            return None
+        at += 2
+
+
+def is_counted(cell):
+    """Is a part of the source written as a count?"""
+    return any(part.group(2) or part.group(4) for part in PART.finditer(cell))
+
+
+def build_reference():
+    made = subprocess.run(['cargo', 'build', '--release', '--quiet', '--manifest-path', os.path.join(ROOT, 'differential', 'Cargo.toml')])
+    if made.returncode:
+        raise SystemExit('the reference could not be built')
+
+
+def ask_reference(command, *arguments):
+    """What the reference's program prints, or `panics` and why."""
+    ran = subprocess.run([REFERENCE, command, *arguments], capture_output=True, env=dict(os.environ, RUST_BACKTRACE='0'))
+    if ran.returncode == 101:
+        said = [line for line in ran.stderr.decode('utf-8', 'replace').split('\n') if line.strip()]
+        return 'panics: ' + said[1]
+    if ran.returncode:
+        return 'error: ' + ran.stderr.decode('utf-8', 'replace').strip()
+    return ran.stdout.decode('utf-8', 'replace').rstrip('\n')
+
+
+class Sources:
+    """A folder of this run; the program and the reference read a source from a file in it."""
+    def __init__(self):
+        self.folder = tempfile.TemporaryDirectory()
+
+    def file(self, name, content):
+        path = os.path.join(self.folder.name, name)
+        with open(path, 'wb') as out:
+            out.write(content)
+        return path
+
+    def assembled(self, text, base=0):
+        """`ok WORDS DATA BSS`, `no LINE MESSAGE`, `panics: ..`, or `error: ..` where the text cannot be given to it."""
+        return ask_reference('assemble-at', str(base), self.file('source.s', text))
+
+    def laid(self, text, base=0):
+        """The answer as the lists have it: its fields, the first `ok`, `no` or `left out: ..`."""
+        return ask_reference('layout-answer', self.file('source.s', text), str(base)).split('\t')
