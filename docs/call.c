@@ -1,10 +1,12 @@
-/* Calls the layout once, for docs/check-refusals.
+/* Calls the layout once, for docs/check-refusals and docs/check-differences.
 
-   usage: call BASE WORDS DATA LABELS EQUATES ITEMS < source
+   usage: call BASE WORDS DATA LABELS EQUATES ITEMS [all] < source
 
    The five numbers are what is lent: words, and bytes of the other four. Writes `ok`, words, data bytes, bss size and evaluations; or `no`, the number
    and the line counted from 1. After a refusal it adds what is not as promised: an output or a count that is not zero. Whatever the answer, it
-   names a buffer that was written behind its end. Every buffer is filled with other bytes before the call. */
+   names a buffer that was written behind its end. Every buffer is filled with other bytes before the call. With `all` the outputs of an accepted
+   layout follow, a line each: `words` in hexadecimal, `data` bytes in hexadecimal, `label` start, length and address, `equate` start, length, value
+   and round, `item` address. */
 #include <stdint.h>
 #include <stdio.h>
 #include <stdlib.h>
@@ -41,6 +43,36 @@ static int all(const uint8_t *bytes, size_t size, uint8_t value)
     return 1;
 }
 
+static uint64_t field(const uint8_t *bytes, int size)
+{
+    uint64_t value = 0;
+    while (size-- > 0)
+        value = value << 8 | bytes[size];
+    return value;
+}
+
+static void print_outputs(uint8_t *const *buffer, const uint64_t *counts)
+{
+    printf("words");
+    for (uint64_t k = 0; k < counts[WORD_COUNT]; k++)
+        printf(" %08lX", (unsigned long)((const uint32_t *)buffer[WORDS])[k]);
+    printf("\ndata");
+    for (uint64_t k = 0; k < counts[DATA_COUNT]; k++)
+        printf(" %02X", buffer[DATA][k]);
+    printf("\n");
+    for (uint64_t k = 0; k < counts[LABEL_COUNT]; k++) {
+        const uint8_t *record = buffer[LABELS] + 16 * k;
+        printf("label %lu %lu %lu\n", (unsigned long)field(record, 4), (unsigned long)field(record + 4, 4), (unsigned long)field(record + 8, 4));
+    }
+    for (uint64_t k = 0; k < counts[EQUATE_COUNT]; k++) {
+        const uint8_t *record = buffer[EQUATES] + 24 * k;
+        printf("equate %lu %lu %lld %lu\n", (unsigned long)field(record, 4), (unsigned long)field(record + 4, 4),
+               (long long)field(record + 12, 8), (unsigned long)field(record + 20, 4));
+    }
+    for (uint64_t k = 0; k < counts[ITEM_COUNT]; k++)
+        printf("item %lu\n", (unsigned long)field(buffer[ITEMS] + 24 * k, 4));
+}
+
 static uint8_t *read_all(size_t *size)
 {
     size_t room = 1 << 16, used = 0, got;
@@ -61,7 +93,7 @@ int main(int count, char **arguments)
     size_t lent[BUFFERS], size[BUFFERS], text_size;
     uint8_t *buffer[BUFFERS];
     uint64_t *counts = filled(COUNTS * sizeof *counts);
-    if (count != 2 + BUFFERS)
+    if (count != 2 + BUFFERS && count != 3 + BUFFERS)
         return 2;
     uint32_t base = (uint32_t)strtoul(arguments[1], NULL, 10);
     for (int k = 0; k < BUFFERS; k++) {
@@ -90,5 +122,7 @@ int main(int count, char **arguments)
     if (!all((uint8_t *)(counts + COUNTS), GUARD, FILL))
         printf(", counts written behind their end");
     printf("\n");
+    if (number == 0 && count == 3 + BUFFERS)
+        print_outputs(buffer, counts);
     return 0;
 }

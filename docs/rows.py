@@ -122,3 +122,37 @@ class Sources:
     def laid(self, text, base=0):
         """The answer as the lists have it: its fields, the first `ok`, `no` or `left out: ..`."""
         return ask_reference('layout-answer', self.file('source.s', text), str(base)).split('\t')
+
+# What is lent in full: words, and bytes of the other four.
+FULL = {'words': 16384, 'data': 65536, 'labels': 1024 * 16, 'equates': 256 * 24, 'items': 2048 * 24}
+
+
+def with_of(cell):
+    """The base, and what is lent: "base 5, labels 15"."""
+    base, lent = 0, dict(FULL)
+    for part in cell.split(', ') if cell else []:
+        name, value = part.split(' ')
+        if name == 'base':
+            base = number(value)
+        else:
+            lent[name] = min(lent[name], number(value))
+    return base, lent
+
+
+def said(command, text):
+    """What a program writes, the text on its standard input."""
+    return subprocess.run(command, input=text, capture_output=True).stdout.decode('utf-8', 'replace').rstrip('\n')
+
+
+def build_call(library, folder):
+    """docs/call.c with the library that exports the call; the command without its arguments."""
+    call = os.path.join(folder, 'call')
+    caller = os.path.join(ROOT, 'docs', 'call.c')
+    made = subprocess.run([os.environ.get('CC', 'cc'), '-std=c99', '-Wall', '-O1', '-o', call, caller, library])
+    if made.returncode:
+        raise SystemExit('docs/call.c could not be built with %s' % library)
+    return call
+
+
+def call_command(call, base, lent):
+    return [call, str(base)] + [str(lent[name]) for name in FULL]
