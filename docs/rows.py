@@ -60,31 +60,54 @@ def line_bytes(span):
 PART = re.compile(r'`([^`]*)`|([\d,]+) lines `([^`]*)`|([\d,]+) blanks|nothing')
 
 
-def source(cell, fewer=0):
-    """The bytes of a cell's source; of what is written as a count, so many fewer. None if the cell is no source."""
-    text, at = b'', 0
+def parts(cell):
+    """The parts of a cell's source, in order; None if the cell is no source."""
+    found, at = [], 0
     while True:
         part = PART.match(cell, at)
         if part is None:
             return None
-        line, count, each, blanks = part.group(1), part.group(2), part.group(3), part.group(4)
-        if line is not None:
-            text += line_bytes(line) + b'\n'
-        elif count is not None:
-            text += b''.join(line_bytes(each.replace('N', str(n))) + b'\n' for n in range(1, number(count) - fewer + 1))
-        elif blanks is not None:
-            text += b' ' * (number(blanks) - fewer)
+        found.append(part)
         at = part.end()
         if at == len(cell):
-            return text
+            return found
         if not cell.startswith(', ', at):
             return None
         at += 2
 
 
-def is_counted(cell):
-    """Is a part of the source written as a count?"""
-    return any(part.group(2) or part.group(4) for part in PART.finditer(cell))
+def part_bytes(part, fewer=0):
+    """A part's bytes; of what is written as a count, so many fewer."""
+    line, count, each, blanks = part.groups()
+    if line is not None:
+        return line_bytes(line) + b'\n'
+    if count is not None:
+        return b''.join(line_bytes(each.replace('N', str(n))) + b'\n' for n in range(1, number(count) - fewer + 1))
+    if blanks is not None:
+        return b' ' * (number(blanks) - fewer)
+    return b''
+
+
+def source(cell):
+    """The bytes of a cell's source; None if the cell is no source."""
+    found = parts(cell)
+    return None if found is None else b''.join(part_bytes(part) for part in found)
+
+
+def smaller(cell):
+    """The source without one of its lines, without one of its bytes but blanks, or with a count one less."""
+    found = parts(cell)
+    for k, part in enumerate(found):
+        before, after = (b''.join(part_bytes(other) for other in some) for some in (found[:k], found[k + 1:]))
+        line, count, each, blanks = part.groups()
+        if count is not None or blanks is not None:
+            yield before + part_bytes(part, 1) + after
+        elif line is not None:
+            yield before + after
+            own = part_bytes(part)
+            for place in range(len(own) - 1):
+                if own[place] != 32:
+                    yield before + own[:place] + own[place + 1:] + after
 
 
 def build_reference():
