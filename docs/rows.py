@@ -17,6 +17,8 @@ class Row:
         self.cells = dict(zip(titles, cells))
 
     def __getitem__(self, title):
+        if title not in self.cells:
+            raise SystemExit('line %d: no column "%s"' % (self.place, title))
         return self.cells[title]
 
 
