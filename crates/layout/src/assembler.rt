@@ -307,7 +307,7 @@ fn refuse(
     ensures { λ r. ⌜ (r ≡ refusedAnswer number line)
         × Clears words × Clears «data_bytes» × Clears labels × Clears equates × Clears items ⌝ }
 {
-    clear(words, data_bytes, labels, equates, items);
+    clear(words, data_bytes, labels, equates, items); // whatever the stages wrote
     Answer {
         number,
         line,
