@@ -8,7 +8,7 @@
 use std::collections::{BTreeMap, HashMap};
 
 use crate::falcon::asm::utils::parse_imm;
-use crate::layout::{pseudo_words, statements, Section, Statement};
+use crate::statements::{pseudo_words, statements, Section, Statement};
 
 /// What the rounds come to.
 pub enum Resolved {

@@ -5,17 +5,16 @@
 //! source that this paper does not compare is left out, with a reason.
 
 use std::collections::{BTreeMap, BTreeSet};
-use std::panic::{self, AssertUnwindSafe};
-use std::sync::atomic::{AtomicBool, Ordering};
-use std::sync::Mutex;
 
+use crate::asking::{self, silence_panics, Asked};
 use crate::cases::escape;
 use crate::equates::{is_name_char, label_addresses, resolve, Found, Labels, Resolved};
 use crate::falcon::asm::assembler::assemble;
 use crate::falcon::asm::errors::AsmError;
 use crate::falcon::asm::program::Program;
-use crate::falcon::asm::utils::preprocess;
+use crate::refusals::{number_of, LAST_OF_LINES, LAST_OF_ROUNDS};
 use crate::sources;
+use crate::statements::{is_other_pseudo, pseudo_words, statements, Section};
 
 /// What the list says of a source.
 pub enum Answer {
@@ -170,24 +169,6 @@ fn name_of(answer: &Answer) -> String {
 
 // ---------- asking the reference ----------
 
-/// The file of the last panic.
-static PANICKED_IN: Mutex<String> = Mutex::new(String::new());
-
-/// Whether the reference is being asked.
-static ASKING: AtomicBool = AtomicBool::new(false);
-
-/// A panic of the reference writes nothing; only the file where it came about
-/// is kept.
-fn silence_panics() {
-    panic::set_hook(Box::new(|panic| {
-        if !ASKING.load(Ordering::Relaxed) {
-            eprintln!("{panic}");
-        } else if let (Some(place), Ok(mut file)) = (panic.location(), PANICKED_IN.lock()) {
-            *file = place.file().to_string();
-        }
-    }));
-}
-
 /// Puts one source to the reference, and holds the model to its answer.
 pub fn ask(text: &str, base: u32) -> Answer {
     let answer = ask_reference(text, base);
@@ -207,25 +188,19 @@ fn ask_reference(text: &str, base: u32) -> Answer {
     if !text.is_ascii() {
         return Answer::Out("added 1");
     }
-    ASKING.store(true, Ordering::Relaxed);
-    let assembled = panic::catch_unwind(AssertUnwindSafe(|| assemble(text, base)));
-    ASKING.store(false, Ordering::Relaxed);
-    match assembled {
-        Ok(Ok(program)) => laid(text, base, &program),
-        Ok(Err(error)) => refused(text, &error),
-        Err(_) => panicked(text),
+    match asking::ask(text, base) {
+        Asked::Laid(program) => laid(text, base, &program),
+        Asked::Refused(error) => refused(text, &error),
+        Asked::Panicked(file) => panicked(text, file),
     }
 }
 
 /// Why a panic: the pair of a la is formed in `pseudo.rs`; what else is
 /// added up with a check, in a source as small as ours, is an expression.
-fn panicked(text: &str) -> Answer {
-    let in_pseudos = PANICKED_IN
-        .lock()
-        .is_ok_and(|file| file.ends_with("pseudo.rs"));
+fn panicked(text: &str, file: &str) -> Answer {
     if has_added(text, usize::MAX) {
         Answer::Out("added 21")
-    } else if in_pseudos {
+    } else if file == "pseudo.rs" {
         Answer::Out("panic: la address from 0x7FFFF800 to 0x7FFFFFFF")
     } else {
         Answer::Out(ADDED_24)
@@ -304,61 +279,14 @@ fn is_term(name: &str) -> bool {
 
 // ---------- a refusal ----------
 
-/// How the messages begin that are given before the pseudos are expanded.
-/// None of them can be the message of an item.
-const MESSAGES: [(&str, u32); 32] = [
-    ("missing section name", 2),
-    ("unknown section: ", 3),
-    ("missing symbol name in .globl/.global", 4),
-    ("expected '.equ name, expr'", 5),
-    ("invalid .align: ", 6),
-    ("invalid align: ", 6),
-    ("invalid .byte: ", 6),
-    ("invalid .half: ", 6),
-    ("invalid .dword: ", 6),
-    ("invalid size: ", 6),
-    ("alignment must be positive: ", 7),
-    ("size must be positive: ", 7),
-    (".byte outside ", 7),
-    (".half outside ", 7),
-    ("invalid .word: ", 8),
-    ("invalid string: ", 9),
-    ("invalid .ascii: ", 9),
-    ("unknown data directive: ", 10),
-    ("unknown .bss directive: ", 11),
-    (".bss does not store explicit data", 12),
-    ("undefined label in .word: ", 13),
-    ("equate redefines existing label: ", 14),
-    ("duplicate equate: ", 15),
-    ("unsupported operator/paren '", 16),
-    ("unexpected character '", 16),
-    ("invalid hex number: ", 16),
-    ("invalid binary number: ", 16),
-    ("invalid number: ", 16),
-    ("empty expression", 16),
-    ("expected term after operator", 16),
-    ("expected '+' or '-'", 16),
-    ("unknown symbol in equate '", 17),
-];
-
-/// The last number that is given while the lines are read, in their order.
-const LAST_OF_LINES: u32 = 12;
-
-/// The last number that is given before the pseudos are expanded.
-const LAST_OF_ROUNDS: u32 = 17;
-
 fn refused(text: &str, error: &AsmError) -> Answer {
     if error.msg.starts_with("invalid .float: ") {
         return Answer::Out("added 21");
     }
-    let known = MESSAGES.iter().find(|(msg, _)| error.msg.starts_with(msg));
-    let number = match known {
-        Some((_, number)) => *number,
-        None => match item_refusal(text, error) {
-            Some(number) => number,
-            None if has_added(text, usize::MAX) => return Answer::Out("added 21"),
-            None => return Answer::Out("ordinary line refused"),
-        },
+    let number = match number_of(text, error) {
+        Some(number) => number,
+        None if has_added(text, usize::MAX) => return Answer::Out("added 21"),
+        None => return Answer::Out("ordinary line refused"),
     };
     let read_lines = match number <= LAST_OF_LINES {
         true => error.line,
@@ -367,89 +295,6 @@ fn refused(text: &str, error: &AsmError) -> Answer {
     match has_added(text, read_lines) {
         true => Answer::Out("added 21"),
         false => Answer::Refused(number, error.line),
-    }
-}
-
-/// The number of a pseudo's message; none for an ordinary line's.
-fn item_refusal(text: &str, error: &AsmError) -> Option<u32> {
-    let statements = statements(text);
-    let found = statements.iter().find(|found| found.line == error.line)?;
-    pseudo_words(&found.text)?;
-    if error.msg.starts_with("label not found: ") {
-        Some(20)
-    } else if error.msg.starts_with("li: ") && error.msg.contains("invalid immediate: ")
-        || error.msg.starts_with("li: invalid character literal: ")
-        || error.msg.starts_with("li: character literal ")
-    {
-        Some(19)
-    } else {
-        let words = ["expected '", "invalid r"];
-        assert!(words.iter().any(|word| error.msg.contains(word)));
-        Some(18)
-    }
-}
-
-// ---------- statements ----------
-
-#[derive(Clone, Copy, PartialEq)]
-pub enum Section {
-    Text,
-    Data,
-    Bss,
-}
-
-/// A line's label, what is left after it, and the section it stands in.
-pub struct Statement {
-    pub line: usize,
-    pub section: Section,
-    pub label: Option<String>,
-    pub text: String,
-}
-
-/// The statements of a source, up to its first bad section name.
-pub fn statements(text: &str) -> Vec<Statement> {
-    let mut section = Section::Text;
-    let mut found = Vec::new();
-    for (line, raw) in preprocess(text) {
-        if let Some(name) = section_name(&raw) {
-            match section_named(&name) {
-                Some(next) => section = next.unwrap_or(section),
-                None => break,
-            }
-        } else {
-            let (label, text) = match raw.split_once(':') {
-                Some((label, rest)) => (Some(label.trim().to_string()), rest.trim().to_string()),
-                None => (None, raw),
-            };
-            found.push(Statement {
-                line,
-                section,
-                label,
-                text,
-            });
-        }
-    }
-    found
-}
-
-/// The name in a line that is taken whole.
-fn section_name(line: &str) -> Option<String> {
-    if [".text", ".data", ".bss"].contains(&line) {
-        return Some(line.to_string());
-    }
-    let rest = line.strip_prefix(".section")?.trim();
-    let name = rest.split(|c: char| c.is_whitespace() || c == ',').next();
-    Some(name.unwrap_or("").to_string())
-}
-
-/// The section of that name; `Some(None)` for the name that changes nothing.
-fn section_named(name: &str) -> Option<Option<Section>> {
-    match name.strip_prefix('.').unwrap_or(name) {
-        "text" => Some(Some(Section::Text)),
-        "data" | "rodata" | "sdata" | "srodata" => Some(Some(Section::Data)),
-        "bss" | "sbss" => Some(Some(Section::Bss)),
-        "note.GNU-stack" if name.starts_with('.') => Some(None),
-        _ => None,
     }
 }
 
@@ -469,54 +314,6 @@ fn is_assignment(statement: &str) -> bool {
         Some((name, sum)) => !name.trim().is_empty() && !sum.trim().is_empty(),
         None => false,
     }
-}
-
-/// The nine pseudos in every spelling, the words that each becomes (li: one
-/// or two, so 0 here), and whether the name may end its line.
-const PSEUDOS: [(&str, usize, bool); 12] = [
-    ("li", 0, false),
-    ("la", 2, false),
-    ("push", 2, false),
-    ("pop", 2, false),
-    ("print", 3, true),
-    ("print_str", 11, true),
-    ("printStr", 11, true),
-    ("printString", 11, true),
-    ("read", 6, true),
-    ("read_byte", 4, true),
-    ("readByte", 4, true),
-    ("random", 8, true),
-];
-
-/// The four pseudos that document 01 refuses.
-const OTHER_PSEUDOS: [(&str, bool); 8] = [
-    ("print_str_ln", true),
-    ("printStrLn", true),
-    ("read_half", true),
-    ("readHalf", true),
-    ("read_word", true),
-    ("readWord", true),
-    ("random_bytes", false),
-    ("randomBytes", false),
-];
-
-fn begins_with(statement: &str, name: &str, may_end: bool) -> bool {
-    match statement.strip_prefix(name) {
-        Some("") => may_end,
-        Some(rest) => rest.starts_with(' '),
-        None => false,
-    }
-}
-
-pub fn pseudo_words(statement: &str) -> Option<usize> {
-    let mut pseudos = PSEUDOS.iter();
-    let found = pseudos.find(|(name, _, may_end)| begins_with(statement, name, *may_end));
-    found.map(|(_, words, _)| *words)
-}
-
-fn is_other_pseudo(statement: &str) -> bool {
-    let mut others = OTHER_PSEUDOS.iter();
-    others.any(|(name, may_end)| begins_with(statement, name, *may_end))
 }
 
 // ---------- an accepted source ----------

@@ -3,20 +3,18 @@
 //! Each subcommand is one small function here; a generator of cases is a
 //! module of its own.
 
-mod cases;
 mod encoder;
 mod equates;
 mod gnu;
 mod layout;
 mod numbers;
-mod random;
 mod sources;
 
 use std::path::Path;
 use std::process::ExitCode;
 use std::{env, fs, io};
 
-use differential::falcon;
+use differential::{asking, cases, falcon, random, refusals, statements};
 use falcon::asm::assembler::assemble;
 
 const USAGE: &str = "usage: differential numbers DIR
