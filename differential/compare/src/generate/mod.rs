@@ -1,0 +1,128 @@
+//! Sources for the comparison, each made anew from a seed, a kind and a number.
+
+pub mod grammar;
+pub mod hostile;
+pub mod limits;
+pub mod mutate;
+pub mod parts;
+pub mod settings;
+pub mod short;
+
+use differential::random::Random;
+
+use crate::model::Lent;
+
+/// A call: what the caller gives and lends.
+#[derive(Clone, Debug)]
+pub struct Case {
+    pub text: Vec<u8>,
+    pub base: u32,
+    pub lent: Lent,
+    /// How many counts are lent; the call has nine.
+    pub counts: usize,
+}
+
+#[derive(Clone, Copy, Debug, PartialEq, Eq, PartialOrd, Ord)]
+pub enum Kind {
+    /// Lines of every kind.
+    Lines,
+    /// Equates, their chains and sums.
+    Equates,
+    /// Data and bss directives.
+    Data,
+    /// Pseudo-instructions and labels.
+    Pseudos,
+    /// Accepted sources, changed.
+    Mutate,
+    /// All short texts over a topic's alphabet.
+    Short,
+    /// Every limit, at it and one over.
+    Limits,
+    /// Bytes of every kind.
+    Hostile,
+}
+
+impl Kind {
+    pub const ALL: [Kind; 8] = [
+        Kind::Lines,
+        Kind::Equates,
+        Kind::Data,
+        Kind::Pseudos,
+        Kind::Mutate,
+        Kind::Short,
+        Kind::Limits,
+        Kind::Hostile,
+    ];
+
+    pub fn name(self) -> &'static str {
+        match self {
+            Kind::Lines => "lines",
+            Kind::Equates => "equates",
+            Kind::Data => "data",
+            Kind::Pseudos => "pseudos",
+            Kind::Mutate => "mutate",
+            Kind::Short => "short",
+            Kind::Limits => "limits",
+            Kind::Hostile => "hostile",
+        }
+    }
+
+    pub fn named(name: &str) -> Option<Kind> {
+        Kind::ALL.into_iter().find(|kind| kind.name() == name)
+    }
+
+    /// How many different sources there are, where that is a number.
+    pub fn total(self) -> Option<u64> {
+        match self {
+            Kind::Short => Some(short::total()),
+            Kind::Limits => Some(limits::total()),
+            _ => None,
+        }
+    }
+}
+
+/// What the sources are made of besides the seed.
+pub struct Generator {
+    seed: u64,
+    pool: mutate::Pool,
+}
+
+impl Generator {
+    pub fn new(seed: u64, pool: mutate::Pool) -> Self {
+        Generator { seed, pool }
+    }
+
+    /// The source of that kind and number.
+    pub fn case(&self, kind: Kind, index: u64) -> Case {
+        let mut random = random_of(self.seed, kind, index);
+        let text = match kind {
+            Kind::Lines => grammar::text(&mut random, grammar::Topic::Lines),
+            Kind::Equates => grammar::text(&mut random, grammar::Topic::Equates),
+            Kind::Data => grammar::text(&mut random, grammar::Topic::Data),
+            Kind::Pseudos => grammar::text(&mut random, grammar::Topic::Pseudos),
+            Kind::Mutate => self.pool.text(&mut random),
+            Kind::Short => short::text(index % short::total()),
+            Kind::Limits => return limits::case(index % limits::total()),
+            Kind::Hostile => hostile::text(&mut random),
+        };
+        let base = settings::base(&mut random);
+        let lent = settings::lent(&mut random);
+        let counts = settings::counts(&mut random);
+        Case {
+            text,
+            base,
+            lent,
+            counts,
+        }
+    }
+}
+
+/// One generator a source, so that each can be made again by itself.
+fn random_of(seed: u64, kind: Kind, index: u64) -> Random {
+    let mut mixed = seed ^ (kind as u64) << 56 ^ index;
+    for factor in [0xBF58_476D_1CE4_E5B9, 0x94D0_49BB_1331_11EB] {
+        mixed = mixed.wrapping_add(0x9E37_79B9_7F4A_7C15);
+        mixed = (mixed ^ mixed >> 30).wrapping_mul(factor);
+    }
+    Random::new((mixed ^ mixed >> 31) | 1)
+}

@@ -1,0 +1,12 @@
+//! Holds the layout call, a second model of it and the Rust reference against
+//! each other.
+
+pub mod generate;
+pub mod list;
+pub mod minimize;
+pub mod model;
+#[cfg(feature = "library")]
+pub mod ours;
+pub mod pool;
+pub mod reference;
+pub mod run;

@@ -1,0 +1,332 @@
+//! The reference's answer, held to the model's on document 01's domain.
+
+use std::borrow::Cow;
+
+use differential::asking::{ask, Asked};
+use differential::falcon::asm::program::Program;
+use differential::refusals::{number_of, LAST_OF_LINES};
+use differential::statements::{pseudo_words, statements};
+
+use crate::model::{Answer, Trace, EQUATE_SIZE, ITEM_SIZE, LABEL_SIZE};
+
+/// What came of the comparison.
+pub enum Held {
+    /// On the domain, and the same.
+    Same,
+    /// Outside the domain, and why.
+    Out(&'static str),
+    /// A finding.
+    Differs(String),
+}
+
+/// What is compared of an accepted source, in either's terms. The words of
+/// ordinary items are none.
+#[derive(PartialEq, Debug)]
+struct Laid {
+    words: Vec<Option<u32>>,
+    data: Vec<u8>,
+    data_base: u32,
+    bss_size: u32,
+    /// Address, name and line, ordered by address and then by name.
+    labels: Vec<(u32, Vec<u8>, usize)>,
+    /// Line, address and statement, in text order.
+    items: Vec<(usize, u32, Vec<u8>)>,
+}
+
+/// Holds the model's answer to the reference's. With `probe` the equates'
+/// values are asked for too.
+pub fn hold(text: &[u8], base: u32, model: &Answer, trace: &Trace, probe: bool) -> Held {
+    match model.number {
+        1 => return Held::Out("added 1"),
+        40 => return Held::Out("added 40"),
+        41 => return Held::Out("added 41"),
+        _ => {}
+    }
+    let Ok(text) = std::str::from_utf8(text) else {
+        return Held::Differs("a byte above 127 without refusal 1".into());
+    };
+    match model.number {
+        21 => above(text, base, model, "added 21"),
+        24 => match ask(text, base) {
+            Asked::Panicked("assembler.rs") => Held::Out("added 24: checked Rust panics in the sum"),
+            other => differs("the reference does not panic", &other, text),
+        },
+        42 => above(text, base, model, "added 42"),
+        43 => above(text, base, model, "added 43"),
+        44 => above(text, base, model, "added 44"),
+        45 => above(text, base, model, "added 45"),
+        46 => above(text, base, model, "added 46"),
+        47 => above(text, base, model, "added 47"),
+        48 => above(text, base, model, "added 48"),
+        _ => domain(text, base, model, trace, probe),
+    }
+}
+
+/// An added refusal of a line: the reference takes the lines above it.
+fn above(text: &str, base: u32, model: &Answer, reason: &'static str) -> Held {
+    let lines = text.split_inclusive('\n').take(model.line as usize);
+    let above = lines.map(str::len).sum();
+    match ask(&text[..above], base) {
+        Asked::Refused(error) => match number_of(text, &error) {
+            Some(number) if number <= LAST_OF_LINES => {
+                Held::Differs(format!("the reference refuses above it: {number} at {}", error.line))
+            }
+            _ => Held::Out(reason),
+        },
+        _ => Held::Out(reason),
+    }
+}
+
+/// The model's answer is no added refusal.
+fn domain(text: &str, base: u32, model: &Answer, trace: &Trace, probe: bool) -> Held {
+    let (asked, nops) = (ask(text, base), || with_nops(text, trace));
+    let (asked, text, reason) = match asked {
+        Asked::Refused(error) if number_of(text, &error).is_none() => {
+            // Ordinary lines are read after the rounds, in order with pseudos.
+            let is_above = match u32::from(model.number) {
+                0 => true,
+                18..=20 => error.line < model.line as usize,
+                _ => false,
+            };
+            if !is_above {
+                return Held::Differs(format!("the reference: {} at {}", error.msg, error.line));
+            }
+            let nops = nops();
+            let asked = ask(&nops, base);
+            let reason = "an ordinary line that parse_instr or encode refuses; compared with nop in its place";
+            (asked, Cow::Owned(nops), Some(reason))
+        }
+        Asked::Panicked("pseudo.rs") if trace.edge => {
+            return Held::Out("a la address that checked Rust cannot form");
+        }
+        Asked::Panicked(_) if !trace.ordinary.is_empty() => {
+            let nops = nops();
+            let reason = "an ordinary line at which the reference panics; compared with nop in its place";
+            (ask(&nops, base), Cow::Owned(nops), Some(reason))
+        }
+        asked => (asked, Cow::Borrowed(text), None),
+    };
+    if let (Some(reason), Asked::Panicked("pseudo.rs"), true) = (reason, &asked, trace.edge) {
+        // Both reasons: the la is behind the ordinary line.
+        return Held::Out(reason);
+    }
+    let is_same = match &asked {
+        Asked::Refused(error) => {
+            let number = number_of(&text, error);
+            number == Some(u32::from(model.number)) && error.line == model.line as usize
+        }
+        Asked::Laid(program) => {
+            if model.number != 0 {
+                return Held::Differs("the reference accepts".into());
+            }
+            if let Some(difference) = difference(&text, program, model, reason.is_some()) {
+                return Held::Differs(difference);
+            }
+            // With nops in the text the model's spans are not its own.
+            if probe && reason.is_none() {
+                if let Some(difference) = probed(&text, base, program, model) {
+                    return Held::Differs(difference);
+                }
+            }
+            true
+        }
+        Asked::Panicked(_) => false,
+    };
+    match (is_same, reason) {
+        (false, _) => differs("other than the model's", &asked, &text),
+        (true, Some(reason)) => Held::Out(reason),
+        (true, None) => Held::Same,
+    }
+}
+
+fn differs(what: &str, asked: &Asked, text: &str) -> Held {
+    Held::Differs(match asked {
+        Asked::Laid(_) => format!("the reference accepts: {what}"),
+        Asked::Refused(error) => {
+            let number = number_of(text, error);
+            format!("the reference: {number:?} at {}, {}: {what}", error.line, error.msg)
+        }
+        Asked::Panicked(file) => format!("the reference panics in {file}: {what}"),
+    })
+}
+
+/// The text with `nop` in place of each ordinary statement: an item and one
+/// word in either. A place in it is no longer a place in the text.
+fn with_nops(text: &str, trace: &Trace) -> String {
+    let mut nops = String::with_capacity(text.len());
+    let mut from = 0;
+    for (at, length) in &trace.ordinary {
+        nops.push_str(&text[from..*at]);
+        nops.push_str("nop");
+        from = at + length;
+    }
+    nops.push_str(&text[from..]);
+    nops
+}
+
+// ---------- an accepted source ----------
+
+fn difference(text: &str, program: &Program, model: &Answer, nops: bool) -> Option<String> {
+    // What the model's spans say is asked of the text that they are of.
+    let theirs = reference_laid(text, program);
+    let ours = match nops {
+        true => return difference_but_spans(&theirs, model),
+        false => model_laid(text.as_bytes(), model),
+    };
+    match theirs == ours {
+        true => None,
+        false => Some(format!("the reference: {theirs:?}\n  the model:     {ours:?}")),
+    }
+}
+
+/// The same without names and statements, for a text with nops.
+fn difference_but_spans(theirs: &Laid, model: &Answer) -> Option<String> {
+    let labels = model.labels.chunks(LABEL_SIZE);
+    let labels = labels.map(|record| (field(record, 2), field(record, 3) as usize));
+    let items = model.items.chunks(ITEM_SIZE);
+    let items = items.map(|record| (field(record, 1) as usize, field(record, 0)));
+    let is_same = theirs.words.len() == model.words.len()
+        && theirs.words.iter().zip(&model.words).all(|(theirs, ours)| match theirs {
+            Some(word) => word == ours,
+            None => *ours == 0,
+        })
+        && theirs.data == model.data
+        && u64::from(theirs.data_base) == model.counts.data_base
+        && u64::from(theirs.bss_size) == model.counts.bss_size
+        && theirs.labels.iter().map(|(address, _, line)| (*address, *line)).eq(labels)
+        && theirs.items.iter().map(|(line, address, _)| (*line, *address)).eq(items);
+    match is_same {
+        true => None,
+        false => Some(format!("with nops, the reference: {theirs:?}")),
+    }
+}
+
+fn reference_laid(text: &str, program: &Program) -> Laid {
+    let statements = statements(text);
+    let mut lines: Vec<_> = program.line_addrs.iter().map(|(line, at)| (*line, *at)).collect();
+    lines.sort();
+    let mut items = Vec::with_capacity(lines.len());
+    let mut words = Vec::with_capacity(program.text.len());
+    let mut left = program.text.as_slice();
+    let mut next = statements.iter();
+    for (line, address) in lines {
+        let found = next.find(|found| found.line == line);
+        let statement = found.expect("an item's statement").text.as_str();
+        items.push((line, address, statement.as_bytes().to_vec()));
+        let count = match pseudo_words(statement) {
+            None => {
+                words.push(None);
+                left = &left[1..];
+                continue;
+            }
+            // Of a li's words the first is a lui if there are two.
+            Some(0) => 1 + usize::from(left[0] & 0x7F == 0x37),
+            Some(count) => count,
+        };
+        words.extend(left[..count].iter().map(|word| Some(*word)));
+        left = &left[count..];
+    }
+    assert!(left.is_empty(), "a word without an item");
+    let mut labels: Vec<_> = program
+        .labels
+        .iter()
+        .flat_map(|(address, names)| names.iter().map(|name| (*address, name)))
+        .map(|(address, name)| (address, name.as_bytes().to_vec(), program.label_to_line[name]))
+        .collect();
+    labels.sort();
+    Laid {
+        words,
+        data: program.data.clone(),
+        data_base: program.data_base,
+        bss_size: program.bss_size,
+        labels,
+        items,
+    }
+}
+
+/// A record's field of four bytes.
+fn field(record: &[u8], number: usize) -> u32 {
+    let bytes = &record[4 * number..4 * number + 4];
+    u32::from_le_bytes(bytes.try_into().expect("four bytes"))
+}
+
+fn span(text: &[u8], record: &[u8], number: usize) -> Vec<u8> {
+    let start = field(record, number) as usize;
+    let length = field(record, number + 1) as usize;
+    text[start..start + length].to_vec()
+}
+
+fn model_laid(text: &[u8], model: &Answer) -> Laid {
+    let mut words: Vec<_> = model.words.iter().map(|word| Some(*word)).collect();
+    for record in model.items.chunks(ITEM_SIZE) {
+        if field(record, 2) == 0 {
+            let word = &mut words[field(record, 3) as usize];
+            if *word == Some(0) {
+                *word = None;
+            }
+        }
+    }
+    let labels = model.labels.chunks(LABEL_SIZE);
+    let items = model.items.chunks(ITEM_SIZE);
+    Laid {
+        words,
+        data: model.data.clone(),
+        data_base: model.counts.data_base as u32,
+        bss_size: model.counts.bss_size as u32,
+        labels: labels
+            .map(|record| (field(record, 2), span(text, record, 0), field(record, 3) as usize))
+            .collect(),
+        items: items
+            .map(|record| (field(record, 1) as usize, field(record, 0), span(text, record, 4)))
+            .collect(),
+    }
+}
+
+// ---------- the equates' values ----------
+
+/// The word of `li a0, 0`.
+const LI_A0_0: u32 = 0x0000_0513;
+
+/// Asks the reference for each equate's value: behind the text, the equate
+/// less its value must be 0, which a li shows. Names that no expression can
+/// hold are not asked for.
+fn probed(text: &str, base: u32, program: &Program, model: &Answer) -> Option<String> {
+    if model.equates.is_empty() || text.contains("probe") {
+        return None;
+    }
+    let mut with = format!("{text}\n.text\n");
+    let mut count = 0;
+    for record in model.equates.chunks(EQUATE_SIZE) {
+        let value = i64::from_le_bytes(record[12..20].try_into().expect("eight bytes"));
+        let Some(name) = equate_name(text, record) else {
+            continue;
+        };
+        let less = match value.checked_neg() {
+            None => format!("+ {} + 1", i64::MAX),
+            Some(opposite) if opposite > 0 => format!("+ {opposite}"),
+            Some(_) => format!("- {value}"),
+        };
+        with.push_str(&format!("probe{count} = {name} {less}\nli a0, probe{count}\n"));
+        count += 1;
+    }
+    let probes = match ask(&with, base) {
+        Asked::Laid(probed) => probed.text,
+        _ => return Some("an equate's value: the reference does not accept the probe".into()),
+    };
+    let is_zero = probes.len() == program.text.len() + count
+        && probes[program.text.len()..].iter().all(|word| *word == LI_A0_0);
+    match is_zero {
+        true => None,
+        false => Some("an equate's value differs".into()),
+    }
+}
+
+/// An equate's name, if an expression can hold it.
+fn equate_name<'a>(text: &'a str, record: &[u8]) -> Option<&'a str> {
+    let start = field(record, 0) as usize;
+    let name = text.get(start..start + field(record, 1) as usize)?;
+    let is_term = name.bytes().all(|b| b.is_ascii_alphanumeric() || b"_.$".contains(&b))
+        && !name.starts_with(|c: char| c.is_ascii_digit())
+        && name != ".";
+    is_term.then_some(name)
+}
