@@ -2,7 +2,8 @@
 
 use differential::random::Random;
 
-use super::parts::Writer;
+use super::parts::{Writer, NAMES};
+use super::rounds;
 
 #[derive(Clone, Copy, PartialEq)]
 pub enum Topic {
@@ -34,6 +35,9 @@ pub fn text(random: &mut Random, topic: Topic) -> Vec<u8> {
         text: Vec::with_capacity(256),
         odd,
     };
+    if topic == Topic::Equates && writer.one_in(2) {
+        return rounds::text(writer);
+    }
     let mut section = Section::Text;
     if topic == Topic::Data {
         section = writer.begin_section();
@@ -41,12 +45,25 @@ pub fn text(random: &mut Random, topic: Topic) -> Vec<u8> {
     for _ in 0..lines {
         writer.line(topic, &mut section);
     }
-    // Names that nothing defined, so that more sources go through.
-    if writer.one_in(3) {
-        for _ in 0..1 + writer.random.below(4) {
-            writer.known_name();
-            writer.put(":\n");
+    // Names that nothing may have defined, so that more sources go through.
+    match writer.random.below(4) {
+        0 => {
+            for _ in 0..1 + writer.random.below(4) {
+                writer.known_name();
+                writer.put(":\n");
+            }
         }
+        1 => {
+            for name in &NAMES[..NAMES.len().min(5 + lines)] {
+                writer.put(name);
+                writer.put(":\n");
+            }
+        }
+        2 => {
+            writer.known_name();
+            writer.put("=7\n");
+        }
+        _ => {}
     }
     if writer.one_in(4) && writer.text.last() == Some(&b'\n') {
         writer.text.pop();

@@ -5,6 +5,7 @@ pub mod hostile;
 pub mod limits;
 pub mod mutate;
 pub mod parts;
+pub mod rounds;
 pub mod settings;
 pub mod short;
 
@@ -101,7 +102,15 @@ impl Generator {
             Kind::Data => grammar::text(&mut random, grammar::Topic::Data),
             Kind::Pseudos => grammar::text(&mut random, grammar::Topic::Pseudos),
             Kind::Mutate => self.pool.text(&mut random),
-            Kind::Short => short::text(index % short::total()),
+            Kind::Short => {
+                // All of them are compared, none hidden by what is lent.
+                return Case {
+                    text: short::text(index % short::total()),
+                    base: 0,
+                    lent: settings::AMPLE,
+                    counts: 9,
+                };
+            }
             Kind::Limits => return limits::case(index % limits::total()),
             Kind::Hostile => hostile::text(&mut random),
         };

@@ -35,7 +35,7 @@ pub fn base(random: &mut Random) -> u32 {
 }
 
 /// Room for any of the small sources, without a long buffer to clear.
-const AMPLE: Lent = Lent {
+pub const AMPLE: Lent = Lent {
     words: 512,
     data: 2_048,
     labels: 64 * LABEL_SIZE,
