@@ -25,5 +25,8 @@ fn main() {
     let name = name.and_then(|name| name.strip_prefix("lib"));
     println!("cargo:rerun-if-changed={}", library.display());
     println!("cargo:rustc-link-search=native={}", folder.display());
-    println!("cargo:rustc-link-lib=static={}", name.expect("a library's name"));
+    println!(
+        "cargo:rustc-link-lib=static={}",
+        name.expect("a library's name")
+    );
 }

@@ -5,7 +5,7 @@ pub mod generate;
 pub mod list;
 pub mod minimize;
 pub mod model;
-#[cfg(feature = "library")]
+#[cfg(any(feature = "library", test))]
 pub mod ours;
 pub mod pool;
 pub mod reference;

@@ -5,7 +5,7 @@
 use std::collections::{BTreeMap, BTreeSet, HashMap, HashSet};
 use std::io;
 
-use crate::generate::{Case, Generator, Kind};
+use crate::generate::{edges, Case, Generator, Kind};
 use crate::model::marks::{self, Seen};
 use crate::model::{Answer, Lent};
 use crate::pool;
@@ -98,8 +98,18 @@ pub fn line(case: &Case, answer: &Answer) -> String {
     ];
     let mut fields = vec![escape(&case.text)];
     fields.extend(numbers.iter().map(u64::to_string));
-    let words: Vec<u8> = answer.words.iter().flat_map(|word| word.to_le_bytes()).collect();
-    let buffers = [&words, &answer.data, &answer.labels, &answer.equates, &answer.items];
+    let words: Vec<u8> = answer
+        .words
+        .iter()
+        .flat_map(|word| word.to_le_bytes())
+        .collect();
+    let buffers = [
+        &words,
+        &answer.data,
+        &answer.labels,
+        &answer.equates,
+        &answer.items,
+    ];
     fields.extend(buffers.iter().map(|bytes| escape(bytes)));
     fields.join("\t") + "\n"
 }
@@ -107,7 +117,9 @@ pub fn line(case: &Case, answer: &Answer) -> String {
 /// How long a line will be, without making it.
 fn length(case: &Case, answer: &Answer) -> usize {
     let escaped = |bytes: &[u8]| -> usize {
-        let visible = bytes.iter().filter(|byte| (33..=126).contains(*byte) && **byte != b'%');
+        let visible = bytes
+            .iter()
+            .filter(|byte| (33..=126).contains(*byte) && **byte != b'%');
         3 * bytes.len() - 2 * visible.count()
     };
     escaped(&case.text)
@@ -165,9 +177,14 @@ pub fn list(generator: &Generator) -> io::Result<List> {
         lent: Lent::FULL,
         counts: 9,
     };
-    let mut wanted: Vec<Case> = NUMBERED.iter().map(|text| full(text.as_bytes().to_vec(), 0)).collect();
+    let mut wanted: Vec<Case> = NUMBERED
+        .iter()
+        .map(|text| full(text.as_bytes().to_vec(), 0))
+        .collect();
+    wanted.extend(edges::cases());
     wanted.extend(pool::examples()?.into_iter().map(|text| full(text, 0)));
-    let limits = (0..Kind::Limits.total().unwrap_or(0)).map(|index| generator.case(Kind::Limits, index));
+    let limits =
+        (0..Kind::Limits.total().unwrap_or(0)).map(|index| generator.case(Kind::Limits, index));
     wanted.extend(limits.filter(|case| chooser.is_short(case)));
     // Today's list: those that go another way than any before them.
     let mut ways = HashSet::new();
@@ -224,7 +241,8 @@ impl Chooser<'_> {
         let outcome = self.comparison.compare(&case, false);
         let seen = marks::take();
         if let Some(finding) = outcome.finding {
-            self.findings.push(format!("{}: {finding}", escape(&case.text)));
+            self.findings
+                .push(format!("{}: {finding}", escape(&case.text)));
             return;
         }
         let length = length(&case, &outcome.model);
@@ -253,9 +271,20 @@ impl Chooser<'_> {
         for case in wanted {
             self.take(case, &mut chosen, &mut covered);
         }
-        let mut open: Vec<_> = self.best.iter().map(|(feature, (length, place))| (*feature, *length, *place)).collect();
+        let mut open: Vec<_> = self
+            .best
+            .iter()
+            .map(|(feature, (length, place))| (*feature, *length, *place))
+            .collect();
         // The longest first: it covers many that need no source of their own.
-        open.sort_by_key(|(feature, length, place)| (matches!(feature, Feature::Pair(..)), usize::MAX - length, *place, *feature));
+        open.sort_by_key(|(feature, length, place)| {
+            (
+                matches!(feature, Feature::Pair(..)),
+                usize::MAX - length,
+                *place,
+                *feature,
+            )
+        });
         for (feature, _, place) in open {
             if !covered.contains(&feature) {
                 let case = self.case(&self.origins[place]);
@@ -292,7 +321,12 @@ impl Chooser<'_> {
         list
     }
 
-    fn take(&mut self, case: Case, chosen: &mut BTreeSet<(usize, u8, String)>, covered: &mut HashSet<Feature>) {
+    fn take(
+        &mut self,
+        case: Case,
+        chosen: &mut BTreeSet<(usize, u8, String)>,
+        covered: &mut HashSet<Feature>,
+    ) {
         marks::take();
         let outcome = self.comparison.compare(&case, true);
         let seen = marks::take();
@@ -300,7 +334,8 @@ impl Chooser<'_> {
         assert!(line.len() < LONGEST_LINE, "a line of {} bytes", line.len());
         covered.extend(features(&seen, outcome.model.number));
         if let Some(finding) = outcome.finding {
-            self.findings.push(format!("{}: {finding}", escape(&case.text)));
+            self.findings
+                .push(format!("{}: {finding}", escape(&case.text)));
         }
         chosen.insert((case.text.len(), outcome.model.number, line));
     }

@@ -56,7 +56,9 @@ fn options(words: &[&str]) -> io::Result<Options> {
         match pair {
             ["--seed", seed] => options.seed = number(seed)?,
             ["--count", count] => options.count = Some(number(count)?),
-            ["--kind", kind] => options.kind = Some(Kind::named(kind).ok_or_else(|| invalid(USAGE))?),
+            ["--kind", kind] => {
+                options.kind = Some(Kind::named(kind).ok_or_else(|| invalid(USAGE))?)
+            }
             _ => return Err(invalid(USAGE)),
         }
     }
@@ -64,7 +66,8 @@ fn options(words: &[&str]) -> io::Result<Options> {
 }
 
 fn number(word: &str) -> io::Result<u64> {
-    word.parse().map_err(|_| invalid(&format!("{word} is no number")))
+    word.parse()
+        .map_err(|_| invalid(&format!("{word} is no number")))
 }
 
 /// How a count is parted among the kinds without a total, of 100.
@@ -89,7 +92,10 @@ fn parts(options: &Options) -> io::Result<Vec<(Kind, u64)>> {
     let limits = total(Kind::Limits).min(count);
     let short = total(Kind::Short).min((count - limits) / 2);
     let left = count - limits - short;
-    let mut parts: Vec<_> = SHARES.iter().map(|(kind, share)| (*kind, left * share / 100)).collect();
+    let mut parts: Vec<_> = SHARES
+        .iter()
+        .map(|(kind, share)| (*kind, left * share / 100))
+        .collect();
     parts.push((Kind::Short, short));
     parts.push((Kind::Limits, limits));
     Ok(parts)
@@ -102,7 +108,11 @@ fn run_all(words: &[&str]) -> io::Result<ExitCode> {
     let started = Instant::now();
     let tally = run::run(&generator, &parts);
     tally.print();
-    println!("{} seconds, seed {}", started.elapsed().as_secs(), options.seed);
+    println!(
+        "{} seconds, seed {}",
+        started.elapsed().as_secs(),
+        options.seed
+    );
     Ok(match tally.findings {
         0 => ExitCode::SUCCESS,
         _ => ExitCode::FAILURE,
@@ -115,8 +125,15 @@ fn one(file: &str, base: &str) -> io::Result<ExitCode> {
     let base = u32::try_from(number(base)?).map_err(|_| invalid("a base has 32 bits"))?;
     differential::asking::silence_panics();
     let (answer, trace) = model::assemble(&text, base, Lent::FULL);
-    println!("model: number {} at {}, {:?}", answer.number, answer.line, answer.counts);
-    let words: String = answer.words.iter().map(|word| format!("{word:08X} ")).collect();
+    println!(
+        "model: number {} at {}, {:?}",
+        answer.number, answer.line, answer.counts
+    );
+    let words: String = answer
+        .words
+        .iter()
+        .map(|word| format!("{word:08X} "))
+        .collect();
     println!("  words: {words}");
     for (name, bytes) in [
         ("data", &answer.data),
@@ -164,7 +181,11 @@ fn write_list(file: &str) -> io::Result<ExitCode> {
     let list = list::list(&generator)?;
     fs::write(file, &list.text)?;
     println!("{} cases of {} looked at", list.cases, list.looked_at);
-    println!("{} bytes, the longest line {}", list.text.len(), list.longest);
+    println!(
+        "{} bytes, the longest line {}",
+        list.text.len(),
+        list.longest
+    );
     println!("{} of {} branches", list.marks, model::marks::NAMES.len());
     println!("{} pairs of a branch and a number", list.pairs_with_numbers);
     println!("{} pairs of branches", list.pairs_of_marks);
@@ -188,7 +209,16 @@ fn hostile(words: &[&str]) -> io::Result<ExitCode> {
     let count = options.count.ok_or_else(|| invalid(USAGE))?;
     let generator = Generator::new(options.seed, pool::pool()?);
     let (limits, mut findings) = (Kind::Limits.total().unwrap_or(0), 0);
-    let random = [Kind::Hostile, Kind::Hostile, Kind::Mutate, Kind::Lines, Kind::Hostile, Kind::Equates, Kind::Data, Kind::Pseudos];
+    let random = [
+        Kind::Hostile,
+        Kind::Hostile,
+        Kind::Mutate,
+        Kind::Lines,
+        Kind::Hostile,
+        Kind::Equates,
+        Kind::Data,
+        Kind::Pseudos,
+    ];
     for number in 0..count {
         // One in sixteen stands at a limit, until each has been there.
         let (kind, index) = match (number % 16, number / 16) {
@@ -199,7 +229,11 @@ fn hostile(words: &[&str]) -> io::Result<ExitCode> {
         let (answer, _) = model::assemble(&case.text, case.base, case.lent);
         if !compare::ours::exact_call(&case.text, case.base, case.lent, &answer) {
             findings += 1;
-            println!("FINDING in {} {index}: {}", kind.name(), run::escape(&case.text));
+            println!(
+                "FINDING in {} {index}: {}",
+                kind.name(),
+                run::escape(&case.text)
+            );
         }
     }
     println!("{count} texts, {findings} findings");

@@ -6,7 +6,10 @@ pub fn minimize(text: &[u8], mut stays: impl FnMut(&[u8]) -> bool) -> Vec<u8> {
     let mut text = text.to_vec();
     loop {
         let before = text.len();
-        let lines: Vec<Vec<u8>> = text.split_inclusive(|b| *b == b'\n').map(<[u8]>::to_vec).collect();
+        let lines: Vec<Vec<u8>> = text
+            .split_inclusive(|b| *b == b'\n')
+            .map(<[u8]>::to_vec)
+            .collect();
         text = without(lines, &mut stays).concat();
         // A long text is not taken apart byte by byte.
         if text.len() <= 4_096 {

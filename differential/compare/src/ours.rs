@@ -88,7 +88,9 @@ impl<T: Garbage> Buffer<T> {
 
     fn is_guarded(&self) -> bool {
         let behind = GUARD + self.lent;
-        let mut guards = self.held[..GUARD].iter().chain(&self.held[behind..behind + GUARD]);
+        let mut guards = self.held[..GUARD]
+            .iter()
+            .chain(&self.held[behind..behind + GUARD]);
         guards.all(|element| *element == T::VALUE)
     }
 
@@ -97,7 +99,9 @@ impl<T: Garbage> Buffer<T> {
         let given = self.given();
         used.len() <= given.len()
             && given[..used.len()] == *used
-            && given[used.len()..].iter().all(|element| *element == T::ZERO)
+            && given[used.len()..]
+                .iter()
+                .all(|element| *element == T::ZERO)
     }
 }
 
@@ -190,7 +194,10 @@ impl Ours {
         let expected = counts_of(model);
         let lent = self.counts.lent;
         if !self.counts.is(&expected[..lent.min(COUNTS)]) {
-            return Some(format!("counts: ours {:?}, model {expected:?}", self.counts.given()));
+            return Some(format!(
+                "counts: ours {:?}, model {expected:?}",
+                self.counts.given()
+            ));
         }
         let same = [
             ("words", self.words.is(&model.words)),
@@ -215,7 +222,11 @@ impl Ours {
             "equates" => self.equates.given(),
             _ => self.items.given(),
         };
-        bytes.iter().take(96).map(|byte| format!("{byte:02X}")).collect()
+        bytes
+            .iter()
+            .take(96)
+            .map(|byte| format!("{byte:02X}"))
+            .collect()
     }
 
     /// One call, and all that it gave, for a reader.
@@ -289,5 +300,151 @@ pub fn exact_call(text: &[u8], base: u32, lent: Lent, model: &Answer) -> bool {
 fn is_used<T: Garbage>(given: &[T], used: &[T]) -> bool {
     used.len() <= given.len()
         && given[..used.len()] == *used
-        && given[used.len()..].iter().all(|element| *element == T::ZERO)
+        && given[used.len()..]
+            .iter()
+            .all(|element| *element == T::ZERO)
+}
+
+/// The wrapper's own tests. The library is not linked into them: a stand-in
+/// answers by the model, with a fault if one is asked for.
+#[cfg(all(test, not(feature = "library")))]
+mod tests {
+    use std::slice::from_raw_parts_mut;
+    use std::sync::atomic::{AtomicUsize, Ordering};
+    use std::sync::Mutex;
+
+    use super::*;
+    use crate::model;
+
+    static FAULT: AtomicUsize = AtomicUsize::new(0);
+    static ONE_AT_A_TIME: Mutex<()> = Mutex::new(());
+
+    #[no_mangle]
+    unsafe extern "C" fn kodhlace_assemble(
+        text: *const u8,
+        text_len: usize,
+        base: u32,
+        words: *mut u32,
+        words_len: usize,
+        data_bytes: *mut u8,
+        data_bytes_len: usize,
+        labels: *mut u8,
+        labels_len: usize,
+        equates: *mut u8,
+        equates_len: usize,
+        items: *mut u8,
+        items_len: usize,
+        counts: *mut u64,
+        counts_len: usize,
+    ) -> u32 {
+        let lent = Lent {
+            words: words_len,
+            data: data_bytes_len,
+            labels: labels_len,
+            equates: equates_len,
+            items: items_len,
+        };
+        let text = std::slice::from_raw_parts(text, text_len);
+        let (mut answer, _) = model::assemble(text, base, lent);
+        let fault = FAULT.load(Ordering::Relaxed);
+        match fault {
+            1 => answer.number ^= 1,
+            2 => answer.line += 1,
+            3 => answer.counts.evaluations += 1,
+            4 => answer.words.iter_mut().for_each(|word| *word ^= 1 << 31),
+            5 => answer.data.iter_mut().for_each(|byte| *byte ^= 1),
+            6 => answer.labels.iter_mut().for_each(|byte| *byte ^= 1),
+            7 => answer.equates.iter_mut().for_each(|byte| *byte ^= 1),
+            8 => answer.items.iter_mut().for_each(|byte| *byte ^= 1),
+            _ => {}
+        }
+        fn give<T: Garbage>(to: *mut T, length: usize, used: &[T], from: &str, fault: usize) {
+            // SAFETY: the wrapper lends so many elements.
+            let to = unsafe { from_raw_parts_mut(to, length) };
+            for (place, element) in to.iter_mut().enumerate() {
+                match used.get(place) {
+                    Some(value) => *element = *value,
+                    // The last element is not cleared, in one buffer.
+                    None if place + 1 == length && fault == 100 + from.len() => {}
+                    None => *element = T::ZERO,
+                }
+            }
+        }
+        give(words, words_len, &answer.words, "w", fault);
+        give(data_bytes, data_bytes_len, &answer.data, "da", fault);
+        give(labels, labels_len, &answer.labels, "lab", fault);
+        give(equates, equates_len, &answer.equates, "equa", fault);
+        give(items, items_len, &answer.items, "items", fault);
+        let all = counts_of(&answer);
+        give(
+            counts,
+            counts_len,
+            &all[..counts_len.min(COUNTS)],
+            "counts",
+            fault,
+        );
+        // One element behind what is lent, or before it; the guards hold it.
+        match fault {
+            200 => *words.add(words_len) = 0,
+            201 => *data_bytes.add(data_bytes_len) = 0,
+            202 => *labels.sub(1) = 0,
+            203 => *equates.add(equates_len) = 0,
+            204 => *items.sub(1) = 0,
+            205 => *counts.add(counts_len) = 0,
+            _ => {}
+        }
+        u32::from(answer.number)
+    }
+
+    fn difference(fault: usize, text: &[u8], counts: usize) -> Option<String> {
+        let _one = ONE_AT_A_TIME.lock();
+        FAULT.store(fault, Ordering::Relaxed);
+        let lent = Lent {
+            words: 20,
+            data: 20,
+            labels: 40,
+            equates: 60,
+            items: 80,
+        };
+        let (answer, _) = model::assemble(text, 0, lent);
+        let difference = Ours::new().differs(text, 0, lent, counts, &answer);
+        let is_exact = fault >= 200 || exact_call(text, 0, lent, &answer);
+        if fault < 200 && counts == COUNTS {
+            assert_eq!(
+                is_exact,
+                difference.is_none(),
+                "both ways to call say the same"
+            );
+        }
+        FAULT.store(0, Ordering::Relaxed);
+        difference
+    }
+
+    const ACCEPTED: &[u8] = b"a: li a0, 5\nn = 7\n.data\n.byte 1";
+
+    #[test]
+    fn the_models_answer_is_no_finding() {
+        for counts in 0..12 {
+            assert_eq!(difference(0, ACCEPTED, counts), None);
+            assert_eq!(difference(0, b".section", counts), None);
+        }
+    }
+
+    #[test]
+    fn every_fault_is_found() {
+        for fault in (1..=8).chain(101..=105).chain(200..=205) {
+            assert!(
+                difference(fault, ACCEPTED, COUNTS).is_some(),
+                "fault {fault}"
+            );
+        }
+        // More counts than nine are lent, and the last is not cleared.
+        assert!(difference(106, ACCEPTED, COUNTS + 2).is_some());
+        for fault in (1..=3).chain(101..=105).chain(200..=205) {
+            assert!(
+                difference(fault, b".section", COUNTS).is_some(),
+                "fault {fault}"
+            );
+        }
+    }
 }

@@ -49,7 +49,9 @@ fn sources_in(folder: &Path) -> io::Result<Vec<Vec<u8>>> {
         .map(|entry| entry.map(|entry| entry.path()))
         .collect::<io::Result<_>>()?;
     files.sort();
-    let sources = files.iter().filter(|file| file.extension().is_some_and(|end| end == "s"));
+    let sources = files
+        .iter()
+        .filter(|file| file.extension().is_some_and(|end| end == "s"));
     sources.map(fs::read).collect()
 }
 

@@ -48,7 +48,9 @@ pub fn hold(text: &[u8], base: u32, model: &Answer, trace: &Trace, probe: bool) 
     match model.number {
         21 => above(text, base, model, "added 21"),
         24 => match ask(text, base) {
-            Asked::Panicked("assembler.rs") => Held::Out("added 24: checked Rust panics in the sum"),
+            Asked::Panicked("assembler.rs") => {
+                Held::Out("added 24: checked Rust panics in the sum")
+            }
             other => differs("the reference does not panic", &other, text),
         },
         42 => above(text, base, model, "added 42"),
@@ -68,9 +70,10 @@ fn above(text: &str, base: u32, model: &Answer, reason: &'static str) -> Held {
     let above = lines.map(str::len).sum();
     match ask(&text[..above], base) {
         Asked::Refused(error) => match number_of(text, &error) {
-            Some(number) if number <= LAST_OF_LINES => {
-                Held::Differs(format!("the reference refuses above it: {number} at {}", error.line))
-            }
+            Some(number) if number <= LAST_OF_LINES => Held::Differs(format!(
+                "the reference refuses above it: {number} at {}",
+                error.line
+            )),
             _ => Held::Out(reason),
         },
         _ => Held::Out(reason),
@@ -101,7 +104,8 @@ fn domain(text: &str, base: u32, model: &Answer, trace: &Trace, probe: bool) -> 
         }
         Asked::Panicked(_) if !trace.ordinary.is_empty() => {
             let nops = nops();
-            let reason = "an ordinary line at which the reference panics; compared with nop in its place";
+            let reason =
+                "an ordinary line at which the reference panics; compared with nop in its place";
             (ask(&nops, base), Cow::Owned(nops), Some(reason))
         }
         asked => (asked, Cow::Borrowed(text), None),
@@ -144,7 +148,10 @@ fn differs(what: &str, asked: &Asked, text: &str) -> Held {
         Asked::Laid(_) => format!("the reference accepts: {what}"),
         Asked::Refused(error) => {
             let number = number_of(text, error);
-            format!("the reference: {number:?} at {}, {}: {what}", error.line, error.msg)
+            format!(
+                "the reference: {number:?} at {}, {}: {what}",
+                error.line, error.msg
+            )
         }
         Asked::Panicked(file) => format!("the reference panics in {file}: {what}"),
     })
@@ -175,7 +182,9 @@ fn difference(text: &str, program: &Program, model: &Answer, nops: bool) -> Opti
     };
     match theirs == ours {
         true => None,
-        false => Some(format!("the reference: {theirs:?}\n  the model:     {ours:?}")),
+        false => Some(format!(
+            "the reference: {theirs:?}\n  the model:     {ours:?}"
+        )),
     }
 }
 
@@ -186,15 +195,27 @@ fn difference_but_spans(theirs: &Laid, model: &Answer) -> Option<String> {
     let items = model.items.chunks(ITEM_SIZE);
     let items = items.map(|record| (field(record, 1) as usize, field(record, 0)));
     let is_same = theirs.words.len() == model.words.len()
-        && theirs.words.iter().zip(&model.words).all(|(theirs, ours)| match theirs {
-            Some(word) => word == ours,
-            None => *ours == 0,
-        })
+        && theirs
+            .words
+            .iter()
+            .zip(&model.words)
+            .all(|(theirs, ours)| match theirs {
+                Some(word) => word == ours,
+                None => *ours == 0,
+            })
         && theirs.data == model.data
         && u64::from(theirs.data_base) == model.counts.data_base
         && u64::from(theirs.bss_size) == model.counts.bss_size
-        && theirs.labels.iter().map(|(address, _, line)| (*address, *line)).eq(labels)
-        && theirs.items.iter().map(|(line, address, _)| (*line, *address)).eq(items);
+        && theirs
+            .labels
+            .iter()
+            .map(|(address, _, line)| (*address, *line))
+            .eq(labels)
+        && theirs
+            .items
+            .iter()
+            .map(|(line, address, _)| (*line, *address))
+            .eq(items);
     match is_same {
         true => None,
         false => Some(format!("with nops, the reference: {theirs:?}")),
@@ -203,7 +224,11 @@ fn difference_but_spans(theirs: &Laid, model: &Answer) -> Option<String> {
 
 fn reference_laid(text: &str, program: &Program) -> Laid {
     let statements = statements(text);
-    let mut lines: Vec<_> = program.line_addrs.iter().map(|(line, at)| (*line, *at)).collect();
+    let mut lines: Vec<_> = program
+        .line_addrs
+        .iter()
+        .map(|(line, at)| (*line, *at))
+        .collect();
     lines.sort();
     let mut items = Vec::with_capacity(lines.len());
     let mut words = Vec::with_capacity(program.text.len());
@@ -231,7 +256,13 @@ fn reference_laid(text: &str, program: &Program) -> Laid {
         .labels
         .iter()
         .flat_map(|(address, names)| names.iter().map(|name| (*address, name)))
-        .map(|(address, name)| (address, name.as_bytes().to_vec(), program.label_to_line[name]))
+        .map(|(address, name)| {
+            (
+                address,
+                name.as_bytes().to_vec(),
+                program.label_to_line[name],
+            )
+        })
         .collect();
     labels.sort();
     Laid {
@@ -274,10 +305,22 @@ fn model_laid(text: &[u8], model: &Answer) -> Laid {
         data_base: model.counts.data_base as u32,
         bss_size: model.counts.bss_size as u32,
         labels: labels
-            .map(|record| (field(record, 2), span(text, record, 0), field(record, 3) as usize))
+            .map(|record| {
+                (
+                    field(record, 2),
+                    span(text, record, 0),
+                    field(record, 3) as usize,
+                )
+            })
             .collect(),
         items: items
-            .map(|record| (field(record, 1) as usize, field(record, 0), span(text, record, 4)))
+            .map(|record| {
+                (
+                    field(record, 1) as usize,
+                    field(record, 0),
+                    span(text, record, 4),
+                )
+            })
             .collect(),
     }
 }
@@ -306,7 +349,9 @@ fn probed(text: &str, base: u32, program: &Program, model: &Answer) -> Option<St
             Some(opposite) if opposite > 0 => format!("+ {opposite}"),
             Some(_) => format!("- {value}"),
         };
-        with.push_str(&format!("probe{count} = {name} {less}\nli a0, probe{count}\n"));
+        with.push_str(&format!(
+            "probe{count} = {name} {less}\nli a0, probe{count}\n"
+        ));
         count += 1;
     }
     let probes = match ask(&with, base) {
@@ -314,7 +359,9 @@ fn probed(text: &str, base: u32, program: &Program, model: &Answer) -> Option<St
         _ => return Some("an equate's value: the reference does not accept the probe".into()),
     };
     let is_zero = probes.len() == program.text.len() + count
-        && probes[program.text.len()..].iter().all(|word| *word == LI_A0_0);
+        && probes[program.text.len()..]
+            .iter()
+            .all(|word| *word == LI_A0_0);
     match is_zero {
         true => None,
         false => Some("an equate's value differs".into()),
@@ -325,7 +372,9 @@ fn probed(text: &str, base: u32, program: &Program, model: &Answer) -> Option<St
 fn equate_name<'a>(text: &'a str, record: &[u8]) -> Option<&'a str> {
     let start = field(record, 0) as usize;
     let name = text.get(start..start + field(record, 1) as usize)?;
-    let is_term = name.bytes().all(|b| b.is_ascii_alphanumeric() || b"_.$".contains(&b))
+    let is_term = name
+        .bytes()
+        .all(|b| b.is_ascii_alphanumeric() || b"_.$".contains(&b))
         && !name.starts_with(|c: char| c.is_ascii_digit())
         && name != ".";
     is_term.then_some(name)

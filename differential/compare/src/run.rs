@@ -36,7 +36,9 @@ impl Comparison {
         let (model, trace) = model::assemble(&case.text, case.base, case.lent);
         #[cfg(feature = "library")]
         {
-            let given = self.ours.differs(&case.text, case.base, case.lent, case.counts, &model);
+            let given = self
+                .ours
+                .differs(&case.text, case.base, case.lent, case.counts, &model);
             if let Some(difference) = given {
                 return Outcome {
                     model,
@@ -89,7 +91,9 @@ pub fn run(generator: &Generator, parts: &[(Kind, u64)]) -> Tally {
         for index in 0..*count {
             // Fewer than all of a fixed number of sources are spread over them.
             let index = match kind.total() {
-                Some(total) if *count < total => (u128::from(index) * u128::from(total) / u128::from(*count)) as u64,
+                Some(total) if *count < total => {
+                    (u128::from(index) * u128::from(total) / u128::from(*count)) as u64
+                }
                 _ => index,
             };
             let case = generator.case(*kind, index);
@@ -119,7 +123,9 @@ fn show(comparison: &mut Comparison, case: &Case, kind: Kind, index: u64, findin
             ..case.clone()
         };
         let outcome = comparison.compare(&smaller, true);
-        outcome.finding.is_some_and(|found| class(&found) == class(finding))
+        outcome
+            .finding
+            .is_some_and(|found| class(&found) == class(finding))
     });
     let smaller = Case {
         text: smallest.clone(),
@@ -127,7 +133,10 @@ fn show(comparison: &mut Comparison, case: &Case, kind: Kind, index: u64, findin
     };
     let outcome = comparison.compare(&smaller, true);
     println!("FINDING in {} {index}: {finding}", kind.name());
-    println!("  base {:#x}, lent {:?}, counts {}", case.base, case.lent, case.counts);
+    println!(
+        "  base {:#x}, lent {:?}, counts {}",
+        case.base, case.lent, case.counts
+    );
     println!("  text {}", escape(&smallest));
     println!("  then {}", outcome.finding.unwrap_or_default());
     println!("  model {} at {}", outcome.model.number, outcome.model.line);
@@ -176,7 +185,11 @@ impl Tally {
         }
         let missed = (0..marks::NAMES.len()).filter(|mark| !self.marks.contains_key(mark));
         let missed: Vec<&str> = missed.map(|mark| marks::NAMES[mark]).collect();
-        println!("branches of the model: {} of {}; missed: {missed:?}", self.marks.len(), marks::NAMES.len());
+        println!(
+            "branches of the model: {} of {}; missed: {missed:?}",
+            self.marks.len(),
+            marks::NAMES.len()
+        );
         println!("{} findings", self.findings);
     }
 }

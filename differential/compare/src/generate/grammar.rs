@@ -149,7 +149,10 @@ impl Writer<'_> {
                 ];
                 (Section::Data, self.random.pick(&names))
             }
-            _ => (Section::Bss, self.random.pick(&[".bss", "bss", ".sbss", "sbss"])),
+            _ => (
+                Section::Bss,
+                self.random.pick(&[".bss", "bss", ".sbss", "sbss"]),
+            ),
         };
         let is_short = [".text", ".data", ".bss"].contains(&name);
         match self.random.below(8) {
@@ -189,12 +192,32 @@ impl Writer<'_> {
 
     fn ignored(&mut self) {
         self.pick(&[
-            ".globl a", ".global x", ".globl\ta", ".globalx", ".globla", ".type a, @function", ".types", ".size a",
-            ".sizea", ".file \"f\"", ".ident \"i\"", ".option norvc", ".attribute arch", ".cfi_startproc", ".cfi_",
+            ".globl a",
+            ".global x",
+            ".globl\ta",
+            ".globalx",
+            ".globla",
+            ".type a, @function",
+            ".types",
+            ".size a",
+            ".sizea",
+            ".file \"f\"",
+            ".ident \"i\"",
+            ".option norvc",
+            ".attribute arch",
+            ".cfi_startproc",
+            ".cfi_",
         ]);
         if self.is_odd() {
             self.put("\n");
-            self.pick(&[".globl", ".global", ".globl ", ".cfi", ".typ", ".global\x0b"]);
+            self.pick(&[
+                ".globl",
+                ".global",
+                ".globl ",
+                ".cfi",
+                ".typ",
+                ".global\x0b",
+            ]);
         }
     }
 
@@ -226,8 +249,24 @@ impl Writer<'_> {
             _ => {
                 if self.is_odd() {
                     self.pick(&[
-                        ".equ", ".set", ".equ a", ".equ ,5", ".set a,", ".equ a,  ", "= 5", "a =", "=", ".x = 5",
-                        ".equa,5", ".set5 5", "a == b", "a = = 1", ".equ a b c", ".equ a 1,2", ". = 5", ".equ ., 9",
+                        ".equ",
+                        ".set",
+                        ".equ a",
+                        ".equ ,5",
+                        ".set a,",
+                        ".equ a,  ",
+                        "= 5",
+                        "a =",
+                        "=",
+                        ".x = 5",
+                        ".equa,5",
+                        ".set5 5",
+                        "a == b",
+                        "a = = 1",
+                        ".equ a b c",
+                        ".equ a 1,2",
+                        ". = 5",
+                        ".equ ., 9",
                     ]);
                 } else {
                     self.known_name();
@@ -262,11 +301,46 @@ impl Writer<'_> {
     fn item(&mut self) {
         if self.is_odd() {
             self.pick(&[
-                "push", "pop", "la", "li", "li\ta0, 5", "push\tra", "printx", "LI a0, 5", "Print a0", "print\ta0",
-                "li,", "print_str_ln x", "printStrLn", "read_half x", "readHalf a", "read_word", "readWord x",
-                "random_bytes x, 4", "randomBytes", "randomBytes x,4", "random_bytes", "print_str_lnx", "random_byte",
-                "unknown a0", "addi a0", ".word 1", ".space 4", "\"s\"", "=", "read_byte", "readByte", "random", "read",
-                "print", "print_str", "printStr", "printString", "subi a0, a0, -2147483648", "beq a0, a1, 1", "j u",
+                "push",
+                "pop",
+                "la",
+                "li",
+                "li\ta0, 5",
+                "push\tra",
+                "printx",
+                "LI a0, 5",
+                "Print a0",
+                "print\ta0",
+                "li,",
+                "print_str_ln x",
+                "printStrLn",
+                "read_half x",
+                "readHalf a",
+                "read_word",
+                "readWord x",
+                "random_bytes x, 4",
+                "randomBytes",
+                "randomBytes x,4",
+                "random_bytes",
+                "print_str_lnx",
+                "random_byte",
+                "unknown a0",
+                "addi a0",
+                ".word 1",
+                ".space 4",
+                "\"s\"",
+                "=",
+                "read_byte",
+                "readByte",
+                "random",
+                "read",
+                "print",
+                "print_str",
+                "printStr",
+                "printString",
+                "subi a0, a0, -2147483648",
+                "beq a0, a1, 1",
+                "j u",
             ]);
             return;
         }
@@ -305,7 +379,12 @@ impl Writer<'_> {
             }
             _ => {
                 self.pick(&[
-                    "print_str ", "printStr ", "printString ", "read ", "read_byte ", "readByte ",
+                    "print_str ",
+                    "printStr ",
+                    "printString ",
+                    "read ",
+                    "read_byte ",
+                    "readByte ",
                 ]);
                 self.gap();
                 self.name();
@@ -324,9 +403,26 @@ impl Writer<'_> {
 
     fn ordinary(&mut self) {
         self.pick(&[
-            "nop", "ret", "ecall", "add a0, a1, a2", "addi sp, sp, -16", "lw a0, 0(sp)", "sw ra, 4(sp)",
-            "sub t0, t1, t2", "slli a0, a0, 3", "lui a0, 1", "mv a0, a1", "NOP", "jr ra", "mul a0, a1, a2",
-            "nop\t", "beq a0, a1, 8", "jal 16", "halt", "seqz a0, a1", "fence",
+            "nop",
+            "ret",
+            "ecall",
+            "add a0, a1, a2",
+            "addi sp, sp, -16",
+            "lw a0, 0(sp)",
+            "sw ra, 4(sp)",
+            "sub t0, t1, t2",
+            "slli a0, a0, 3",
+            "lui a0, 1",
+            "mv a0, a1",
+            "NOP",
+            "jr ra",
+            "mul a0, a1, a2",
+            "nop\t",
+            "beq a0, a1, 8",
+            "jal 16",
+            "halt",
+            "seqz a0, a1",
+            "fence",
         ]);
     }
 
@@ -335,12 +431,55 @@ impl Writer<'_> {
     fn data(&mut self) {
         if self.is_odd() {
             self.pick(&[
-                ".byte", ".half ", ".word", ".dword", ".align", ".space", ".zero", ".asciz", ".ascii x", ".string \"",
-                ".float 1", ".float", ".floatx", ".skip 1", ".align 0", ".align -1", ".space -1", ".zero 1,2", ".words 5",
-                ".bytes 1", ".byte 1,", ".byte ,1", ".byte 256", ".byte -1", ".half 65536", ".half -1", ".word 4294967296",
-                ".word a b", ".word 5x", ".word a$", ".word ,", ".byte 1,,2", ".dword a", ".dword 9223372036854775808",
-                "nop", "li a0, 5", ".text", ".Byte 1", ".asciz \"a\" x", ".string 'a'", ".space 65537", ".zero 2147483647",
-                ".align 65537", ".align 2147483647", ".string \"a:b\"", ".quad 1", ".asci \"a\"", ".asciz\"a;b\"", "byte 1",
+                ".byte",
+                ".half ",
+                ".word",
+                ".dword",
+                ".align",
+                ".space",
+                ".zero",
+                ".asciz",
+                ".ascii x",
+                ".string \"",
+                ".float 1",
+                ".float",
+                ".floatx",
+                ".skip 1",
+                ".align 0",
+                ".align -1",
+                ".space -1",
+                ".zero 1,2",
+                ".words 5",
+                ".bytes 1",
+                ".byte 1,",
+                ".byte ,1",
+                ".byte 256",
+                ".byte -1",
+                ".half 65536",
+                ".half -1",
+                ".word 4294967296",
+                ".word a b",
+                ".word 5x",
+                ".word a$",
+                ".word ,",
+                ".byte 1,,2",
+                ".dword a",
+                ".dword 9223372036854775808",
+                "nop",
+                "li a0, 5",
+                ".text",
+                ".Byte 1",
+                ".asciz \"a\" x",
+                ".string 'a'",
+                ".space 65537",
+                ".zero 2147483647",
+                ".align 65537",
+                ".align 2147483647",
+                ".string \"a:b\"",
+                ".quad 1",
+                ".asci \"a\"",
+                ".asciz\"a;b\"",
+                "byte 1",
             ]);
             return;
         }
@@ -350,11 +489,31 @@ impl Writer<'_> {
             4..=6 => self.words(),
             7 => self.numbers(".dword", usize::MAX / 4),
             8..=9 => {
-                self.pick(&[".asciz", ".string", ".ascii", ".asciz ", ".string\t", ".ascii "]);
+                self.pick(&[
+                    ".asciz",
+                    ".string",
+                    ".ascii",
+                    ".asciz ",
+                    ".string\t",
+                    ".ascii ",
+                ]);
                 self.gap();
                 self.pick(&[
-                    "\"\"", "\"a\"", "\"hello\"", "\"a\\n\"", "\" \"", "\"\"\"", "\"a,b\"", "\"a\",\"b\"", "\"'\"", "\"a b\"",
-                    "\"\t\"", "\"=\"", "\"%\"", "\"\\\"", "\"a.b.c.d.e.f\"",
+                    "\"\"",
+                    "\"a\"",
+                    "\"hello\"",
+                    "\"a\\n\"",
+                    "\" \"",
+                    "\"\"\"",
+                    "\"a,b\"",
+                    "\"a\",\"b\"",
+                    "\"'\"",
+                    "\"a b\"",
+                    "\"\t\"",
+                    "\"=\"",
+                    "\"%\"",
+                    "\"\\\"",
+                    "\"a.b.c.d.e.f\"",
                 ]);
                 self.gap();
             }
@@ -414,9 +573,30 @@ impl Writer<'_> {
     fn bss(&mut self) {
         if self.is_odd() {
             self.pick(&[
-                ".byte 1", ".half", ".word x", ".dword 1", ".float 1", ".ascii", ".asciz \"a\"", ".string \"a\"", ".bytes",
-                ".skip", ".skip -1", ".align 0", ".align x", ".space 1,2", ".comm x", "nop", ".skipx", ".space 1048577",
-                ".zero 4294967295", ".align 2147483647", ".align 1048577", ".alig 4", ".skip 'a'", ".org 5",
+                ".byte 1",
+                ".half",
+                ".word x",
+                ".dword 1",
+                ".float 1",
+                ".ascii",
+                ".asciz \"a\"",
+                ".string \"a\"",
+                ".bytes",
+                ".skip",
+                ".skip -1",
+                ".align 0",
+                ".align x",
+                ".space 1,2",
+                ".comm x",
+                "nop",
+                ".skipx",
+                ".space 1048577",
+                ".zero 4294967295",
+                ".align 2147483647",
+                ".align 1048577",
+                ".alig 4",
+                ".skip 'a'",
+                ".org 5",
             ]);
             return;
         }

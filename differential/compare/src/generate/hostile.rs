@@ -4,8 +4,32 @@ use differential::random::Random;
 
 /// Pieces that bring random bytes near the rules.
 const PIECES: [&[u8]; 26] = [
-    b".data\n", b".bss\n", b".text\n", b".section ", b":", b"=", b"\n", b",", b"li ", b"la a0,", b".word ", b".byte ",
-    b".equ ", b"\"", b"'", b"#", b";", b".", b"0x", b"-", b"+", b" ", b"\t", b"\r\n", b"print_str ", b".align ",
+    b".data\n",
+    b".bss\n",
+    b".text\n",
+    b".section ",
+    b":",
+    b"=",
+    b"\n",
+    b",",
+    b"li ",
+    b"la a0,",
+    b".word ",
+    b".byte ",
+    b".equ ",
+    b"\"",
+    b"'",
+    b"#",
+    b";",
+    b".",
+    b"0x",
+    b"-",
+    b"+",
+    b" ",
+    b"\t",
+    b"\r\n",
+    b"print_str ",
+    b".align ",
 ];
 
 pub fn text(random: &mut Random) -> Vec<u8> {
@@ -28,7 +52,9 @@ pub fn text(random: &mut Random) -> Vec<u8> {
             // NULs.
             3 => text.push([0, 0, 0, b'\n', b':', b'=', b'a'][random.below(7)]),
             // White space of every kind, and what parts lines.
-            4 => text.push([9, 10, 11, 12, 13, 32, b':', b'a', b'=', b'5', b',', 28, 31][random.below(13)]),
+            4 => text.push(
+                [9, 10, 11, 12, 13, 32, b':', b'a', b'=', b'5', b',', 28, 31][random.below(13)],
+            ),
             // Pieces alone.
             5 => text.extend_from_slice(random.pick(&PIECES)),
             // Pieces and bytes below 128.

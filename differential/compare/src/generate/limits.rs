@@ -2,7 +2,7 @@
 
 use std::sync::OnceLock;
 
-use super::Case;
+use super::{edges, Case};
 use crate::model::{Lent, EQUATE_SIZE, ITEM_SIZE, LABEL_SIZE};
 
 static CASES: OnceLock<Vec<Case>> = OnceLock::new();
@@ -51,7 +51,9 @@ fn name(mut number: usize) -> String {
 }
 
 fn labels(count: usize) -> String {
-    (0..count).map(|number| format!("{}:\n", name(number))).collect()
+    (0..count)
+        .map(|number| format!("{}:\n", name(number)))
+        .collect()
 }
 
 /// Each equate is one more than the one below it: as many rounds as equates.
@@ -102,13 +104,16 @@ fn built() -> Vec<Case> {
     all_at_once(&mut cases);
     lent(&mut cases);
     bases(&mut cases);
+    cases.0.extend(edges::cases());
     cases.0
 }
 
 /// Texts of the longest length: one kind of byte throughout, or one long line.
 fn texts(cases: &mut Cases) {
     for length in [TEXT - 1, TEXT, TEXT + 1] {
-        for byte in ["\n", " ", "#", ";", ":", "=", ".", "a", ",", "\0", "\x7f", "'", "\"", "-", "0", "\x0b"] {
+        for byte in [
+            "\n", " ", "#", ";", ":", "=", ".", "a", ",", "\0", "\x7f", "'", "\"", "-", "0", "\x0b",
+        ] {
             cases.add(byte.repeat(length), 0, Lent::FULL);
         }
         for (before, piece) in [
@@ -213,13 +218,26 @@ fn bss(cases: &mut Cases) {
 
 fn words(cases: &mut Cases) {
     let strings = |count: usize| "print_str x\n".repeat(count);
-    for tail in ["", "nop\n", "la a0, x\n", "print a0\n", "print a0\nnop\n", "la a0, x\nprint a0\n", "la a0, x\nprint a0\nnop\n"] {
+    for tail in [
+        "",
+        "nop\n",
+        "la a0, x\n",
+        "print a0\n",
+        "print a0\nnop\n",
+        "la a0, x\nprint a0\n",
+        "la a0, x\nprint a0\nnop\n",
+    ] {
         // 1,489 times eleven words are 16,379.
         cases.full(format!("x:\n{}{tail}z:\n", strings(1_489)));
     }
     cases.full(strings(1_490));
     // 2,048 items of eight words: both limits at once.
-    for (count, tail) in [(2_048, ""), (2_048, "nop\n"), (2_047, "read_byte x\n"), (2_047, "print_str x\n")] {
+    for (count, tail) in [
+        (2_048, ""),
+        (2_048, "nop\n"),
+        (2_047, "read_byte x\n"),
+        (2_047, "print_str x\n"),
+    ] {
         cases.full(format!("x:\n{}{tail}z:\n", "random a0\n".repeat(count)));
     }
     // li by an equate reserves two words and emits one.
@@ -240,11 +258,15 @@ fn tables(cases: &mut Cases) {
         cases.full(chain_up(count));
         cases.full(chain_down(count));
         cases.full(format!("{}li a0,{}", chain_up(count), "ena"));
-        let constants: String = (0..count).map(|number| format!("{}=-.\n", name(number))).collect();
+        let constants: String = (0..count)
+            .map(|number| format!("{}=-.\n", name(number)))
+            .collect();
         cases.full(constants);
         let shared: String = (0..count).map(|_| "a=b\n".to_string()).collect();
         cases.full(shared);
-        let cycle: String = (0..count).map(|number| format!("{}={}\n", name(number), name((number + 1) % count))).collect();
+        let cycle: String = (0..count)
+            .map(|number| format!("{}={}\n", name(number), name((number + 1) % count)))
+            .collect();
         cases.full(cycle);
         cases.full(format!("{}.equ\n", chain_down(count)));
     }
@@ -260,13 +282,24 @@ fn all_at_once(cases: &mut Cases) {
     let items = "random a0\n".repeat(2_048);
     let labels = labels(1_023);
     let equates = chain_up(256);
-    let data = format!(".data\nw: {}.space {}\n", label_words(1_024), 65_536 - 4_096);
+    let data = format!(
+        ".data\nw: {}.space {}\n",
+        label_words(1_024),
+        65_536 - 4_096
+    );
     let bss = ".bss\n.space 1048576\n";
     let all = format!("{items}{labels}{equates}{data}{bss}");
     cases.full(filled(all.clone(), TEXT));
     cases.full(filled(all.clone(), TEXT + 1));
     for over in [
-        "over:\n", "over=1\n", ".skip 1\n", ".data\n.byte 1\n", ".data\n.word w\n", ".text\nnop\n", ".text\nread_half x\n", ".data\n.float 1\n",
+        "over:\n",
+        "over=1\n",
+        ".skip 1\n",
+        ".data\n.byte 1\n",
+        ".data\n.word w\n",
+        ".text\nnop\n",
+        ".text\nread_half x\n",
+        ".data\n.float 1\n",
     ] {
         cases.full(filled(format!("{all}{over}"), TEXT));
     }
@@ -288,7 +321,10 @@ fn lent(cases: &mut Cases) {
         for change in [1, size - 1, size, size + 1] {
             let mut less = exact;
             let mut more = exact;
-            for (lent, by) in [(&mut less, -(change as isize)), (&mut more, change as isize)] {
+            for (lent, by) in [
+                (&mut less, -(change as isize)),
+                (&mut more, change as isize),
+            ] {
                 let field = match part {
                     0 => &mut lent.words,
                     1 => &mut lent.data,
@@ -366,7 +402,13 @@ fn bases(cases: &mut Cases) {
         0xFFFF_F000,
         0xFFFF_FFFF,
     ] {
-        for text in ["la a0, x\nx:", "la a0, x\n.data\nx: .word x", "read x\n.bss\nx:", "la a0, x\nla a1, x\nx: n=.-x\nli a0,n", ""] {
+        for text in [
+            "la a0, x\nx:",
+            "la a0, x\n.data\nx: .word x",
+            "read x\n.bss\nx:",
+            "la a0, x\nla a1, x\nx: n=.-x\nli a0,n",
+            "",
+        ] {
             cases.add(text.to_string(), base, Lent::FULL);
         }
     }

@@ -1,5 +1,6 @@
 //! Sources for the comparison, each made anew from a seed, a kind and a number.
 
+pub mod edges;
 pub mod grammar;
 pub mod hostile;
 pub mod limits;

@@ -9,10 +9,17 @@ pub struct Pool {
 
 impl Pool {
     pub fn new(texts: Vec<Vec<u8>>) -> Self {
-        let lines = |text: Vec<u8>| text.split_inclusive(|b| *b == b'\n').map(<[u8]>::to_vec).collect();
+        let lines = |text: Vec<u8>| {
+            text.split_inclusive(|b| *b == b'\n')
+                .map(<[u8]>::to_vec)
+                .collect()
+        };
         let sources: Vec<Vec<Vec<u8>>> = texts.into_iter().map(lines).collect();
         Pool {
-            sources: sources.into_iter().filter(|lines| !lines.is_empty()).collect(),
+            sources: sources
+                .into_iter()
+                .filter(|lines| !lines.is_empty())
+                .collect(),
         }
     }
 
@@ -21,7 +28,12 @@ impl Pool {
         let mut lines = self.piece(random);
         // Data that is cut out is put where data may be.
         if random.below(4) == 0 {
-            lines.insert(0, random.pick(&[b".data\n" as &[u8], b".bss\n", b".text\n"]).to_vec());
+            lines.insert(
+                0,
+                random
+                    .pick(&[b".data\n" as &[u8], b".bss\n", b".text\n"])
+                    .to_vec(),
+            );
         }
         if random.below(6) == 0 {
             lines.extend(self.piece(random));
@@ -76,7 +88,10 @@ fn swap_words(lines: &mut [Vec<u8>], one: usize, other: usize, random: &mut Rand
     };
     let (from, to) = word(&lines[one], random);
     let (start, end) = word(&lines[other], random);
-    let (mine, yours) = (lines[one][from..to].to_vec(), lines[other][start..end].to_vec());
+    let (mine, yours) = (
+        lines[one][from..to].to_vec(),
+        lines[other][start..end].to_vec(),
+    );
     if one != other {
         lines[one].splice(from..to, yours);
         lines[other].splice(start..end, mine);

@@ -20,7 +20,14 @@ const EDGES: [&str; 12] = [
 ];
 
 /// How each name is made from its number.
-const FORMS: [(&str, &str); 6] = [("e", ""), (".L", ""), ("_", "x"), ("$", ""), ("k", ".1"), ("E_", "$")];
+const FORMS: [(&str, &str); 6] = [
+    ("e", ""),
+    (".L", ""),
+    ("_", "x"),
+    ("$", ""),
+    ("k", ".1"),
+    ("E_", "$"),
+];
 
 pub fn text(mut writer: Writer<'_>) -> Vec<u8> {
     let count = match writer.random.below(12) {
@@ -49,7 +56,16 @@ pub fn text(mut writer: Writer<'_>) -> Vec<u8> {
         }
         writer.equate_of(number, count, form, labels, is_edge);
         if writer.one_in(8) {
-            writer.pick(&["nop\n", "li a0, 5\n", "push ra\n", ".data\n.byte 1\n", ".bss\n.skip 3\n", ".text\n", "\n", "# c\n"]);
+            writer.pick(&[
+                "nop\n",
+                "li a0, 5\n",
+                "push ra\n",
+                ".data\n.byte 1\n",
+                ".bss\n.skip 3\n",
+                ".text\n",
+                "\n",
+                "# c\n",
+            ]);
         }
     }
     while defined < labels {
@@ -82,8 +98,21 @@ impl Writer<'_> {
         self.put(&name);
     }
 
-    fn equate_of(&mut self, number: usize, count: usize, form: (&str, &str), labels: usize, is_edge: bool) {
-        let (before, parting) = [("", "="), ("", " = "), (".equ ", ","), (".set ", ", "), (".equ ", " ")][self.random.below(5)];
+    fn equate_of(
+        &mut self,
+        number: usize,
+        count: usize,
+        form: (&str, &str),
+        labels: usize,
+        is_edge: bool,
+    ) {
+        let (before, parting) = [
+            ("", "="),
+            ("", " = "),
+            (".equ ", ","),
+            (".set ", ", "),
+            (".equ ", " "),
+        ][self.random.below(5)];
         self.put(before);
         self.equate_name(number, form);
         self.put(parting);

@@ -127,7 +127,9 @@ fn layout(text: &[u8], base: u32, lent: Lent, trace: &mut Trace) -> Result<Answe
     } = lines::read(text, lent)?;
     for item in &items {
         if item.kind == 0 {
-            trace.ordinary.push((item.source.at, item.source.bytes.len()));
+            trace
+                .ordinary
+                .push((item.source.at, item.source.bytes.len()));
         }
     }
 
@@ -157,15 +159,24 @@ fn layout(text: &[u8], base: u32, lent: Lent, trace: &mut Trace) -> Result<Answe
     let (values, evaluations) = equates::resolve(&mut equates, &addresses, &address)?;
     let (words, firsts) = pseudos::emit(&items, &addresses, &values, &mut trace.edge)?;
 
-    let mut ordered: Vec<_> = labels.iter().map(|(name, label)| (addresses[name], *name, label)).collect();
+    let mut ordered: Vec<_> = labels
+        .iter()
+        .map(|(name, label)| (addresses[name], *name, label))
+        .collect();
     ordered.sort_by_key(|(address, name, _)| (*address, *name));
     let mut label_records = Vec::with_capacity(ordered.len() * LABEL_SIZE);
     for (address, name, label) in &ordered {
-        put(&mut label_records, &[label.at, name.len(), *address as usize, label.line]);
+        put(
+            &mut label_records,
+            &[label.at, name.len(), *address as usize, label.line],
+        );
     }
     let mut equate_records = Vec::with_capacity(equates.len() * EQUATE_SIZE);
     for equate in &equates {
-        put(&mut equate_records, &[equate.name.at, equate.name.bytes.len(), equate.line]);
+        put(
+            &mut equate_records,
+            &[equate.name.at, equate.name.bytes.len(), equate.line],
+        );
         equate_records.extend_from_slice(&equate.value.to_le_bytes());
         put(&mut equate_records, &[equate.round]);
     }
@@ -173,7 +184,14 @@ fn layout(text: &[u8], base: u32, lent: Lent, trace: &mut Trace) -> Result<Answe
     for (item, first) in items.iter().zip(&firsts) {
         let address = u64::from(base) + item.offset;
         let source = item.source;
-        let fields = [address as usize, item.line, item.kind, *first, source.at, source.bytes.len()];
+        let fields = [
+            address as usize,
+            item.line,
+            item.kind,
+            *first,
+            source.at,
+            source.bytes.len(),
+        ];
         put(&mut item_records, &fields);
     }
     mark!(Accepted);

@@ -70,7 +70,9 @@ pub fn trim(bytes: &[u8]) -> &[u8] {
 /// White-space runs made one space, those at both ends dropped.
 pub fn one_spaced(bytes: &[u8]) -> Vec<u8> {
     let mut spaced = Vec::with_capacity(bytes.len());
-    let words = bytes.split(|b| is_white(*b)).filter(|word| !word.is_empty());
+    let words = bytes
+        .split(|b| is_white(*b))
+        .filter(|word| !word.is_empty());
     for word in words {
         if !spaced.is_empty() {
             spaced.push(b' ');

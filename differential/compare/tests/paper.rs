@@ -1,0 +1,206 @@
+//! The model against what the papers say outright: document 01's twelve cases,
+//! and the smallest inputs of docs/DECISIONS.md.
+
+use compare::model::{assemble, Answer, Lent};
+
+fn answer(text: &[u8], base: u32, lent: Lent) -> Answer {
+    assemble(text, base, lent).0
+}
+
+fn full(text: &str) -> Answer {
+    answer(text.as_bytes(), 0, Lent::FULL)
+}
+
+fn words(text: &str) -> Vec<u32> {
+    let answer = full(text);
+    assert_eq!(answer.number, 0, "{text}");
+    answer.words
+}
+
+fn data(text: &str) -> Vec<u8> {
+    let answer = full(text);
+    assert_eq!(answer.number, 0, "{text}");
+    answer.data
+}
+
+fn refused(text: &str, number: u8, line: u32) {
+    let given = full(text);
+    assert_eq!((given.number, given.line), (number, line), "{text:?}");
+    let all = Answer {
+        number,
+        line,
+        ..Answer::default()
+    };
+    assert_eq!(given, all, "{text:?}: every count 0, nothing in a buffer");
+}
+
+#[test]
+fn twelve_cases() {
+    let empty = full("");
+    assert_eq!(empty.number, 0);
+    assert_eq!(empty.counts.data_base, 0x1000);
+    assert_eq!(
+        empty.counts.words + empty.counts.data_bytes + empty.counts.bss_size,
+        0
+    );
+    assert_eq!(words("li a0, 2047"), [0x7FF00513]);
+    assert_eq!(words("li a0, 2048"), [0x00001537, 0x80050513]);
+    assert_eq!(words("li a0, 0x7FFFF800"), [0x80000537, 0x80050513]);
+    assert_eq!(words("li a0, 4294967295"), [0xFFF00513]);
+    refused("n = 4294967295\nli a0, n", 19, 1);
+    assert_eq!(words("push ra"), [0xFFC10113, 0x00112023]);
+    assert_eq!(words("pop ra"), [0x00012083, 0x00410113]);
+    assert_eq!(data(".data\n.byte 1\n.align 3").len(), 1);
+    assert_eq!(data(".data\n.byte 1,1\n.align 3").len(), 4);
+    assert_eq!(data(".data\n.byte 1,1,1\n.align 3").len(), 5);
+    assert_eq!(data(".data\n.byte --5"), [5]);
+    refused(".data\n.byte 256", 7, 1);
+    refused(".data\n.dword -9223372036854775808", 6, 1);
+    assert_eq!(
+        data(".data\n.dword +-9223372036854775808"),
+        [0, 0, 0, 0, 0, 0, 0, 0x80]
+    );
+    let chain = full("a = b+1\nb = c+1\nc = 5");
+    let field = |record: usize, at: usize| chain.equates[24 * record + at];
+    assert_eq!([field(0, 12), field(1, 12), field(2, 12)], [7, 6, 5]);
+    assert_eq!([field(0, 20), field(1, 20), field(2, 20)], [3, 2, 1]);
+    assert_eq!(chain.counts.evaluations, 6);
+    refused("a = b\nb = a", 17, 0);
+    assert_eq!(
+        data(".data\nt: .byte 1\nt: .byte 2\n.word t"),
+        [1, 2, 1, 0x10, 0, 0]
+    );
+}
+
+#[test]
+fn decided_refusals() {
+    for (text, number, line) in [
+        (".data\n.byte -1", 7, 1),
+        ("push x-0", 18, 0),
+        ("push ra\0", 18, 0),
+        ("n = 0x", 16, 0),
+        ("n = u + 5f", 16, 0),
+        ("n = u + 5g", 17, 0),
+        (".data\n.space 1,2", 6, 1),
+        (".equ '', 5\nli a0, ''", 19, 1),
+        ("a = b\na = 1", 15, 0),
+        ("a = u 5", 17, 0),
+        ("a = 5 u", 16, 0),
+        ("a = 9223372036854775807+1+u", 24, 0),
+        ("a = u+9223372036854775807+1", 17, 0),
+        ("a = 9223372036854775807+1 5", 24, 0),
+        ("a = 9223372036854775807+1 (", 16, 0),
+        (".data\nx: .data", 10, 1),
+        (".bss\nx: .data", 11, 1),
+        (".section", 2, 0),
+        ("a  b = 1\nli a0, a  b", 19, 1),
+        ("a  b: la a0, a  b", 20, 0),
+        ("n = 5\x0b+1", 16, 0),
+        (".data\n.word y\ny = 5", 13, 1),
+        ("y = 5\nla a0, y", 20, 1),
+        ("y:\nli a0, y", 19, 1),
+        ("nop\n.section", 2, 1),
+        (".data\n.skip 1", 10, 1),
+        (".bss\n.byte 1", 12, 1),
+        (".data\n.words 5", 8, 1),
+        (".data\n.float 1", 21, 1),
+        ("x = a\na = b\na = u\nb = a", 17, 0),
+        (".data\n.word u\na = u", 13, 1),
+        ("push 5", 18, 0),
+        ("li z, u", 18, 0),
+        ("x: print_str_ln x", 21, 0),
+        ("x: random_bytes x, 4", 21, 0),
+    ] {
+        refused(text, number, line);
+    }
+}
+
+#[test]
+fn decided_otherwise() {
+    assert_eq!(data(".data\n.byte '''"), [39]);
+    assert_eq!(data(".data\n.byte '\\'"), [92]);
+    assert_eq!(words(".equ n 5,6\nli a0, n 5"), [0x00600513]);
+    assert_eq!(words("a b = 1\nli a0, a  b"), [0x00100513]);
+    assert_eq!(
+        words(".equ 99999999999, 5\nli a0, 99999999999"),
+        [0x00500513]
+    );
+    assert_eq!(words("x: .data"), [0]);
+    assert_eq!(words("push"), [0]);
+    assert_eq!(full("a b: la a0, a  b").number, 0);
+    assert_eq!(answer(b".bss\n.align 2", 1, Lent::FULL).counts.bss_size, 0);
+    assert_eq!(full(".data\n.byte 1\n.bss\n.align 4").counts.bss_size, 0);
+    let dot = full("nop\n.equ ., 9\nn = .");
+    assert_eq!(
+        dot.equates[24 + 12],
+        4,
+        "`.` is the place, also where an equate has that name"
+    );
+    let again = full("a:\na:");
+    assert_eq!(
+        again.labels,
+        [3, 0, 0, 0, 1, 0, 0, 0, 0, 0, 0, 0, 1, 0, 0, 0]
+    );
+    // A small equate reserves two words and emits one.
+    let ahead = full("n = 5\nli a0, n\nx: nop");
+    assert_eq!(ahead.labels[8], 8);
+    assert_eq!(ahead.items[24 + 12], 1);
+}
+
+#[test]
+fn bytes_above_127() {
+    for (text, line) in [(&b"\n\x80"[..], 1), (b".section\n\x80", 1), (b"# \xFF", 0)] {
+        let given = answer(text, 0, Lent::FULL);
+        assert_eq!((given.number, given.line), (1, line));
+    }
+}
+
+#[test]
+fn what_is_lent() {
+    let labels = |labels| {
+        answer(
+            b"a:",
+            0,
+            Lent {
+                labels,
+                ..Lent::FULL
+            },
+        )
+        .number
+    };
+    assert_eq!([labels(15), labels(16), labels(31)], [45, 0, 0]);
+    let data = |data| answer(b".data\n.word x, ?", 0, Lent { data, ..Lent::FULL }).number;
+    assert_eq!([data(3), data(4)], [42, 8]);
+    let align = answer(
+        b".data\n.byte 1\n.align 2",
+        0,
+        Lent {
+            data: 1,
+            ..Lent::FULL
+        },
+    );
+    assert_eq!((align.number, align.line), (42, 2));
+    let room = |labels| {
+        answer(
+            b"b: .equ",
+            0,
+            Lent {
+                labels,
+                ..Lent::FULL
+            },
+        )
+        .number
+    };
+    assert_eq!([room(0), room(16)], [45, 5]);
+}
+
+/// An alignment never goes back, whatever the place and the number.
+#[test]
+fn alignments_go_forward() {
+    for place in 0..200 {
+        for alignment in 1..300 {
+            let given = full(&format!(".bss\n.space {place}\n.align {alignment}"));
+            assert!(given.counts.bss_size >= place, "{place} {alignment}");
+        }
+    }
+}
