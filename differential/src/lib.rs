@@ -6,4 +6,5 @@ pub mod cases;
 pub mod falcon;
 pub mod random;
 pub mod refusals;
+pub mod sources;
 pub mod statements;

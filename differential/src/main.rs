@@ -8,13 +8,12 @@ mod equates;
 mod gnu;
 mod layout;
 mod numbers;
-mod sources;
 
 use std::path::Path;
 use std::process::ExitCode;
 use std::{env, fs, io};
 
-use differential::{asking, cases, falcon, random, refusals, statements};
+use differential::{asking, cases, falcon, random, refusals, sources, statements};
 use falcon::asm::assembler::assemble;
 
 const USAGE: &str = "usage: differential numbers DIR

@@ -37,9 +37,12 @@ const NUMBERED: [&str; 19] = [
 /// A line of the list has fewer bytes than this.
 const LONGEST_LINE: usize = 60_000;
 
-/// A source at a limit is listed if its line has fewer bytes than this, or if
-/// nothing shorter has what it has.
-const LIMIT_LINE: usize = 1_500;
+/// A source at a limit is listed if its line has fewer bytes than this; at base
+/// 0 a longer one too.
+const LIMIT_LINE: usize = 8_000;
+
+/// So many of the sources built by topic are listed for their way alone.
+const WAYS: usize = 1_000;
 
 /// The sources of each random kind that are looked at.
 const LOOKED_AT: u64 = 400_000;
@@ -186,13 +189,17 @@ pub fn list(generator: &Generator) -> io::Result<List> {
     let limits =
         (0..Kind::Limits.total().unwrap_or(0)).map(|index| generator.case(Kind::Limits, index));
     wanted.extend(limits.filter(|case| chooser.is_short(case)));
-    // Today's list: those that go another way than any before them.
+    // Of the sources built by topic those that go another way than any before,
+    // the shortest first.
+    let built =
+        (0..Kind::Built.total().unwrap_or(0)).map(|index| generator.case(Kind::Built, index));
+    let mut built: Vec<Case> = built.collect();
+    built.sort_by_key(|case| case.text.len());
     let mut ways = HashSet::new();
-    for (text, base) in pool::listed()? {
-        let case = full(text, base);
+    for case in built {
         marks::take();
-        let outcome = chooser.comparison.compare(&case, true);
-        if ways.insert((marks::take(), outcome.model.number)) {
+        let number = chooser.comparison.compare(&case, true).model.number;
+        if ways.len() < WAYS && ways.insert((marks::take(), number)) {
             wanted.push(case);
         }
     }
@@ -204,6 +211,8 @@ pub fn list(generator: &Generator) -> io::Result<List> {
         let total = kind.total();
         let count = match kind {
             Kind::Short => SHORT_LOOKED_AT,
+            // Its lines are too long for the list.
+            Kind::Many => 0,
             _ => total.unwrap_or(LOOKED_AT),
         };
         for number in 0..count {
@@ -227,7 +236,12 @@ impl Chooser<'_> {
 
     fn is_short(&mut self, case: &Case) -> bool {
         let answer = self.comparison.compare(case, false).model;
-        is_lent(case) && length(case, &answer) < LIMIT_LINE
+        let longest = if case.base == 0 {
+            LONGEST_LINE
+        } else {
+            LIMIT_LINE
+        };
+        is_lent(case) && length(case, &answer) < longest
     }
 
     /// Keeps a candidate for the features that it is the shortest for.

@@ -12,7 +12,7 @@ const USAGE: &str = "usage: compare run --seed S --count N [--kind K]
        compare one FILE BASE
        compare list FILE
        compare hostile --count N [--seed S]
-kinds: lines equates data pseudos mutate short limits hostile";
+kinds: lines equates data pseudos mutate many built short limits hostile";
 
 /// The seed of the list, and of runs that name none.
 const SEED: u64 = 1;
@@ -70,18 +70,20 @@ fn number(word: &str) -> io::Result<u64> {
         .map_err(|_| invalid(&format!("{word} is no number")))
 }
 
-/// How a count is parted among the kinds without a total, of 100.
-const SHARES: [(Kind, u64); 6] = [
-    (Kind::Lines, 22),
-    (Kind::Equates, 22),
-    (Kind::Data, 14),
-    (Kind::Pseudos, 18),
-    (Kind::Mutate, 16),
-    (Kind::Hostile, 8),
+/// How a count is parted among the kinds without a total, of 1,000. Those of
+/// `many` are long, so that few of them take as much time as many others.
+const SHARES: [(Kind, u64); 7] = [
+    (Kind::Lines, 220),
+    (Kind::Equates, 219),
+    (Kind::Data, 140),
+    (Kind::Pseudos, 180),
+    (Kind::Mutate, 160),
+    (Kind::Many, 1),
+    (Kind::Hostile, 80),
 ];
 
-/// The sources of each kind: all limits, the short ones up to half of the
-/// count, the rest by their shares.
+/// The sources of each kind: all limits and all that are built, the short ones
+/// up to half of the count, the rest by their shares.
 fn parts(options: &Options) -> io::Result<Vec<(Kind, u64)>> {
     if let Some(kind) = options.kind {
         let count = options.count.or(kind.total());
@@ -90,12 +92,14 @@ fn parts(options: &Options) -> io::Result<Vec<(Kind, u64)>> {
     let count = options.count.ok_or_else(|| invalid(USAGE))?;
     let total = |kind: Kind| kind.total().unwrap_or(0);
     let limits = total(Kind::Limits).min(count);
-    let short = total(Kind::Short).min((count - limits) / 2);
-    let left = count - limits - short;
+    let built = total(Kind::Built).min(count - limits);
+    let short = total(Kind::Short).min((count - limits - built) / 2);
+    let left = count - limits - built - short;
     let mut parts: Vec<_> = SHARES
         .iter()
-        .map(|(kind, share)| (*kind, left * share / 100))
+        .map(|(kind, share)| (*kind, left * share / 1_000))
         .collect();
+    parts.push((Kind::Built, built));
     parts.push((Kind::Short, short));
     parts.push((Kind::Limits, limits));
     Ok(parts)

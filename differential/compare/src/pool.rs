@@ -1,7 +1,10 @@
 //! The accepted sources that the repository and the papers have.
 
 use std::path::{Path, PathBuf};
+use std::sync::OnceLock;
 use std::{fs, io};
+
+use differential::sources;
 
 use crate::generate::mutate::Pool;
 
@@ -10,33 +13,16 @@ fn root() -> PathBuf {
     Path::new(env!("CARGO_MANIFEST_DIR")).join("../..")
 }
 
-/// The bytes of a field: `%` and two hexadecimal digits stand for one byte.
-pub fn unescape(field: &str) -> Vec<u8> {
-    let mut bytes = Vec::with_capacity(field.len());
-    let mut rest = field.as_bytes();
-    while let [first, after @ ..] = rest {
-        if let (b'%', Some(digits)) = (first, after.get(..2)) {
-            let digits = std::str::from_utf8(digits).expect("digits");
-            bytes.push(u8::from_str_radix(digits, 16).expect("two hexadecimal digits"));
-            rest = &after[2..];
-        } else {
-            bytes.push(*first);
-            rest = after;
-        }
-    }
-    bytes
-}
-
-/// The sources of the list that stands in the repository, with their bases.
-pub fn listed() -> io::Result<Vec<(Vec<u8>, u32)>> {
-    let list = fs::read_to_string(root().join("crates/layout_cases/data/cases"))?;
-    let cases = list.lines().map(|line| {
-        let mut fields = line.split('\t');
-        let text = unescape(fields.next().unwrap_or(""));
-        let base = fields.next().and_then(|base| base.parse().ok());
-        (text, base.unwrap_or(0))
-    });
-    Ok(cases.collect())
+/// The sources that `differential` builds by topic, with their bases.
+pub fn built() -> &'static [(String, u32)] {
+    static BUILT: OnceLock<Vec<(String, u32)>> = OnceLock::new();
+    BUILT.get_or_init(|| {
+        let mut sources = sources::built(&sources::BUILDERS);
+        sources.extend(sources::built(&sources::WHOLE));
+        sources.extend(sources::built(&[sources::BEYOND]));
+        sources.extend(sources::long_chains().into_iter().map(|text| (text, 0)));
+        sources
+    })
 }
 
 /// The display routines in the repository.
@@ -63,6 +49,12 @@ pub fn pool() -> io::Result<Pool> {
         texts.extend(examples()?);
     }
     texts.extend(sources_in(&root().join("../shared/speed"))?);
-    texts.extend(listed()?.into_iter().map(|(text, _)| text));
+    // One in five of the small ones, for the same reason.
+    texts.extend(
+        built()
+            .iter()
+            .step_by(5)
+            .map(|(text, _)| text.clone().into_bytes()),
+    );
     Ok(Pool::new(texts))
 }

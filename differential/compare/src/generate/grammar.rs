@@ -68,7 +68,16 @@ pub fn text(random: &mut Random, topic: Topic) -> Vec<u8> {
     if writer.one_in(4) && writer.text.last() == Some(&b'\n') {
         writer.text.pop();
     }
-    writer.text
+    match writer.one_in(24) {
+        true => with_cr(&writer.text),
+        false => writer.text,
+    }
+}
+
+/// Lines ended by CR and LF.
+fn with_cr(text: &[u8]) -> Vec<u8> {
+    let lines: Vec<&[u8]> = text.split(|b| *b == b'\n').collect();
+    lines.join(&b"\r\n"[..])
 }
 
 impl Writer<'_> {

@@ -350,6 +350,25 @@ fn lent(cases: &mut Cases) {
         cases.add(text.to_string(), 0, lent);
         cases.add(String::new(), 0, lent);
     }
+    // 42 before 47, and both before the next operand's 8.
+    for room in [4_095, 4_096, 4_099, 4_100, 4_104] {
+        let lent = Lent {
+            data: room,
+            ..Lent::FULL
+        };
+        for tail in [
+            "",
+            ".word w",
+            ".word w,?",
+            ".word 1,w,?",
+            ".word ?",
+            ".byte 1",
+            ".align 8",
+        ] {
+            let words = label_words(1_024);
+            cases.add(format!("w:\n.data\n{words}{tail}\n"), 0, lent);
+        }
+    }
     // More than any limit: the limits stay.
     let large = Lent {
         words: 20_000,

@@ -4,6 +4,7 @@ pub mod edges;
 pub mod grammar;
 pub mod hostile;
 pub mod limits;
+pub mod many;
 pub mod mutate;
 pub mod parts;
 pub mod rounds;
@@ -13,6 +14,7 @@ pub mod short;
 use differential::random::Random;
 
 use crate::model::Lent;
+use crate::pool;
 
 /// A call: what the caller gives and lends.
 #[derive(Clone, Debug)]
@@ -36,6 +38,10 @@ pub enum Kind {
     Pseudos,
     /// Accepted sources, changed.
     Mutate,
+    /// Many names, each looked up.
+    Many,
+    /// The sources that `differential` builds by topic.
+    Built,
     /// All short texts over a topic's alphabet.
     Short,
     /// Every limit, at it and one over.
@@ -45,12 +51,14 @@ pub enum Kind {
 }
 
 impl Kind {
-    pub const ALL: [Kind; 8] = [
+    pub const ALL: [Kind; 10] = [
         Kind::Lines,
         Kind::Equates,
         Kind::Data,
         Kind::Pseudos,
         Kind::Mutate,
+        Kind::Many,
+        Kind::Built,
         Kind::Short,
         Kind::Limits,
         Kind::Hostile,
@@ -63,6 +71,8 @@ impl Kind {
             Kind::Data => "data",
             Kind::Pseudos => "pseudos",
             Kind::Mutate => "mutate",
+            Kind::Many => "many",
+            Kind::Built => "built",
             Kind::Short => "short",
             Kind::Limits => "limits",
             Kind::Hostile => "hostile",
@@ -76,6 +86,7 @@ impl Kind {
     /// How many different sources there are, where that is a number.
     pub fn total(self) -> Option<u64> {
         match self {
+            Kind::Built => Some(pool::built().len() as u64),
             Kind::Short => Some(short::total()),
             Kind::Limits => Some(limits::total()),
             _ => None,
@@ -103,6 +114,16 @@ impl Generator {
             Kind::Data => grammar::text(&mut random, grammar::Topic::Data),
             Kind::Pseudos => grammar::text(&mut random, grammar::Topic::Pseudos),
             Kind::Mutate => self.pool.text(&mut random),
+            Kind::Many => many::text(&mut random),
+            Kind::Built => {
+                let (text, base) = pool::built()[index as usize % pool::built().len()].clone();
+                return Case {
+                    text: text.into_bytes(),
+                    base,
+                    lent: Lent::FULL,
+                    counts: 9,
+                };
+            }
             Kind::Short => {
                 // All of them are compared, none hidden by what is lent.
                 return Case {
@@ -116,7 +137,10 @@ impl Generator {
             Kind::Hostile => hostile::text(&mut random),
         };
         let base = settings::base(&mut random);
-        let lent = settings::lent(&mut random);
+        let lent = match kind {
+            Kind::Many => settings::long(&mut random),
+            _ => settings::lent(&mut random),
+        };
         let counts = settings::counts(&mut random);
         Case {
             text,

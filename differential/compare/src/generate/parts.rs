@@ -259,8 +259,32 @@ impl Writer<'_> {
         }
         if self.is_odd() {
             self.pick(&[
-                "", "-", "+", "0x", "0b", "0b2", "0xg", "- 5", "1 2", "1_0", "5f", "--", "+-",
-                "0x 1", "'", "''", "'ab'", "\"1\"", "1.5", "1e3", "0o7", "$", "1+1",
+                "",
+                "-",
+                "+",
+                "0x",
+                "0b",
+                "0b2",
+                "0xg",
+                "- 5",
+                "1 2",
+                "1_0",
+                "5f",
+                "--",
+                "+-",
+                "0x 1",
+                "'",
+                "''",
+                "'ab'",
+                "\"1\"",
+                "1.5",
+                "1e3",
+                "0o7",
+                "$",
+                "1+1",
+                "99999999999999999999999999",
+                "0xFFFFFFFFFFFFFFFFF",
+                "-99999999999999999999",
             ]);
             return;
         }
@@ -285,7 +309,7 @@ impl Writer<'_> {
             2 => format!("0X{magnitude:X}"),
             3 => format!("0b{magnitude:b}"),
             4 => format!("0B{magnitude:b}"),
-            5 => format!("00{magnitude}"),
+            5 => format!("{}{magnitude}", "0".repeat(1 + self.random.below(30))),
             _ => format!("{magnitude}"),
         };
         match self.random.below(24) {

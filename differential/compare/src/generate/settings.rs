@@ -65,6 +65,20 @@ pub fn lent(random: &mut Random) -> Lent {
     }
 }
 
+/// For long sources: mostly the full size, or one buffer less than that.
+pub fn long(random: &mut Random) -> Lent {
+    let mut lent = Lent::FULL;
+    match random.below(16) {
+        0 => lent.words = random.below(lent.words),
+        1 => lent.data = random.below(lent.data),
+        2 => lent.labels = random.below(lent.labels),
+        3 => lent.equates = random.below(lent.equates),
+        4 => lent.items = random.below(lent.items),
+        _ => {}
+    }
+    lent
+}
+
 /// One buffer short, the others ample: so many whole records, one byte less
 /// or one more.
 fn one_short(random: &mut Random) -> Lent {
