@@ -148,12 +148,17 @@ fn one(file: &str, base: &str) -> io::Result<ExitCode> {
         let bytes: String = bytes.iter().map(|byte| format!("{byte:02X}")).collect();
         println!("  {name}: {bytes}");
     }
+    println!("reference: {}", reference::show(&text, base));
     let held = reference::hold(&text, base, &answer, &trace, true);
     let is_held = !matches!(held, reference::Held::Differs(_));
     match held {
-        reference::Held::Same => println!("reference: the same"),
-        reference::Held::Out(reason) => println!("reference: outside the domain: {reason}"),
-        reference::Held::Differs(difference) => println!("reference: DIFFERS: {difference}"),
+        reference::Held::Same => println!("model and reference: the same"),
+        reference::Held::Out(reason) => {
+            println!("model and reference: outside the domain: {reason}")
+        }
+        reference::Held::Differs(difference) => {
+            println!("model and reference: DIFFER: {difference}")
+        }
     }
     let is_ours = one_of_ours(&text, base, &answer);
     Ok(match is_held && is_ours {

@@ -157,6 +157,45 @@ fn differs(what: &str, asked: &Asked, text: &str) -> Held {
     })
 }
 
+/// The reference's own answer, for a reader.
+pub fn show(text: &[u8], base: u32) -> String {
+    let Ok(text) = std::str::from_utf8(text) else {
+        return "cannot be asked: the text is no UTF-8".into();
+    };
+    match ask(text, base) {
+        Asked::Laid(program) => {
+            let laid = reference_laid(text, &program);
+            let words = laid.words.iter().map(|word| match word {
+                Some(word) => format!("{word:08X} "),
+                None => "- ".into(),
+            });
+            let bytes = laid.data.iter().map(|byte| format!("{byte:02X}"));
+            let name = |bytes: &[u8]| String::from_utf8_lossy(bytes).into_owned();
+            let labels = laid.labels.iter();
+            let labels = labels.map(|(at, text, line)| format!("{:?}@{at}@{line} ", name(text)));
+            let items = laid.items.iter();
+            let items = items.map(|(line, at, text)| format!("{:?}@{at}@{line} ", name(text)));
+            format!(
+                "accepted, data base {}, bss size {}\n  words: {}\n  data: {}\n  labels: {}\n  items: {}",
+                laid.data_base,
+                laid.bss_size,
+                words.collect::<String>(),
+                bytes.collect::<String>(),
+                labels.collect::<String>(),
+                items.collect::<String>()
+            )
+        }
+        Asked::Refused(error) => {
+            let number = match number_of(text, &error) {
+                Some(number) => number.to_string(),
+                None => "no number of document 01".into(),
+            };
+            format!("{number} at {}: {}", error.line, error.msg)
+        }
+        Asked::Panicked(file) => format!("panics in {file}"),
+    }
+}
+
 /// The text with `nop` in place of each ordinary statement: an item and one
 /// word in either. A place in it is no longer a place in the text.
 fn with_nops(text: &str, trace: &Trace) -> String {
