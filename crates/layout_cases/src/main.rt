@@ -1,11 +1,8 @@
-// Replays the list of the reference's answers in data/cases against the layout's stages: how many agreed, and the first line that
-// did not. The list's form is described in differential/README.md.
+// Replays the list of whole answers in data/cases through the call `assemble`: how many lines agreed, and the first that did not. The
+// list's form is described in differential/README.md.
+mod buffers;
 mod compare;
-mod equates;
-mod items;
-mod labels;
 mod listed;
-mod records;
 
 use crate::compare::agrees;
 use numbers::text::span_bytes;
