@@ -2,23 +2,26 @@
 //! run, so they show small changes that times do not.
 
 use std::path::Path;
-use std::process::Command;
-use std::{env, fs, io, process};
+use std::{fs, io};
 
 use timing::figures::{grouped, ratio};
-use timing::sources::{sources, Source};
+use timing::ours::Buffers;
+use timing::sources::Source;
+
+use crate::callgrind::{counted, Scratch};
 
 /// So many calls more than one: what they add is theirs, and not the start's.
 const MORE: u64 = 4;
 
-pub fn table(chosen: &[&str]) -> io::Result<()> {
-    let sources = sources(chosen)?;
-    println!("| source | ours | reference | reference / ours |");
-    println!("|---|---|---|---|");
-    let file = env::temp_dir().join(format!("timing-{}.s", process::id()));
-    let done = sources.iter().try_for_each(|source| row(source, &file));
-    fs::remove_file(&file)?;
-    done
+/// What the reference reads an ordinary instruction line by. Ours puts a 0 for
+/// such a line's word, so that these instructions are counted apart too.
+const ORDINARY: &str = "differential::falcon::asm::assembler::parse_instr";
+
+pub fn table(sources: &[Source]) -> io::Result<()> {
+    println!("| source | ours | reference | of it `parse_instr` | reference / ours | without `parse_instr` |");
+    println!("|---|---|---|---|---|---|");
+    let file = Scratch::new("s");
+    sources.iter().try_for_each(|source| row(source, &file.0))
 }
 
 /// The source goes through a file, so that making it is not counted.
@@ -26,36 +29,48 @@ fn row(source: &Source, file: &Path) -> io::Result<()> {
     fs::write(file, &source.text)?;
     let ours = instructions("ours", file)?;
     let theirs = instructions("reference", file)?;
+    let ordinary = match ordinary_lines(&source.text) {
+        0 => 0,
+        _ => ordinary_instructions(file)?,
+    };
     println!(
-        "| {} | {} | {} | {} |",
+        "| {} | {} | {} | {} | {} | {} |",
         source.what,
         grouped(ours),
         grouped(theirs),
-        ratio(theirs as f64, ours as f64)
+        grouped(ordinary),
+        ratio(theirs as f64, ours as f64),
+        ratio(theirs.saturating_sub(ordinary) as f64, ours as f64)
     );
     Ok(())
 }
 
 /// The instructions of one call.
 fn instructions(who: &str, file: &Path) -> io::Result<u64> {
-    let first = counted(who, file, 1)?;
-    let all = counted(who, file, 1 + MORE)?;
+    let nowhere = [NO_PROFILE.to_string()];
+    let first = counted(who, file, 1, &nowhere)?;
+    let all = counted(who, file, 1 + MORE, &nowhere)?;
     Ok(all.saturating_sub(first) / MORE)
 }
 
-/// The instructions of a whole run with so many calls.
-fn counted(who: &str, file: &Path, calls: u64) -> io::Result<u64> {
-    let output = Command::new("valgrind")
-        .args(["--tool=callgrind", "--callgrind-out-file=/dev/null"])
-        .arg(env::current_exe()?)
-        .args(["run", who])
-        .arg(file)
-        .arg(calls.to_string())
-        .output()
-        .map_err(|error| io::Error::new(error.kind(), format!("valgrind: {error}")))?;
-    let said = String::from_utf8_lossy(&output.stderr);
-    said.lines()
-        .find_map(|line| line.split_once("Collected : "))
-        .and_then(|(_, count)| count.trim().parse().ok())
-        .ok_or_else(|| io::Error::other(format!("valgrind counted nothing: {said}")))
+/// Those of one call that are within the function for ordinary lines.
+fn ordinary_instructions(file: &Path) -> io::Result<u64> {
+    let within = [
+        NO_PROFILE.to_string(),
+        format!("--toggle-collect={ORDINARY}"),
+    ];
+    match counted("reference", file, 1, &within)? {
+        0 => Err(io::Error::other(format!(
+            "callgrind does not see {ORDINARY}"
+        ))),
+        count => Ok(count),
+    }
+}
+
+const NO_PROFILE: &str = "--callgrind-out-file=/dev/null";
+
+fn ordinary_lines(text: &str) -> usize {
+    let mut buffers = Buffers::new();
+    let answer = buffers.assemble(text);
+    buffers.items(&answer).filter(|item| item.kind == 0).count()
 }

@@ -1,6 +1,7 @@
-//! What the two programs share: the contenders, the sources, and how figures
-//! are written.
+//! What the two programs share: the contenders, that they agree, the sources,
+//! and how figures are written.
 
+pub mod agreement;
 pub mod figures;
 pub mod ours;
 pub mod reference;

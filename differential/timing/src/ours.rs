@@ -1,146 +1,174 @@
-//! Our code, through the static library of `crates/layout_speed`.
+//! Our code: the exported call of `crates/jig`, through its static library.
 //!
-//! Nothing compares these declarations with the library: they follow its
+//! Nothing compares this declaration with the library: it follows the crate's
 //! `src/lib.rt`, where a slice is a pointer and then a length.
 
 extern "C" {
-    fn layout_line_stage(
+    fn kodhlace_assemble(
         text: *const u8,
         text_len: usize,
-        labels: *mut u8,
-        labels_len: usize,
-        index: *mut u16,
-        index_len: usize,
-        equates: *mut u8,
-        equates_len: usize,
-        exprs: *mut u8,
-        exprs_len: usize,
-        items: *mut u8,
-        items_len: usize,
+        base: u32,
+        words: *mut u32,
+        words_len: usize,
         data_bytes: *mut u8,
         data_bytes_len: usize,
-        label_words: *mut u8,
-        label_words_len: usize,
-        words: usize,
-    ) -> u64;
-
-    fn layout_imm64_or(text: *const u8, text_len: usize, other: i64) -> i64;
-
-    fn layout_imm_or(text: *const u8, text_len: usize, other: i32) -> i32;
+        labels: *mut u8,
+        labels_len: usize,
+        equates: *mut u8,
+        equates_len: usize,
+        items: *mut u8,
+        items_len: usize,
+        counts: *mut u64,
+        counts_len: usize,
+    ) -> u32;
 }
 
+/// The longest text that is not refused.
 pub const TEXT_LIMIT: usize = 65536;
 
-const WORD_LIMIT: usize = 16384;
+const LABEL_SIZE: usize = 16;
+const EQUATE_SIZE: usize = 24;
+const ITEM_SIZE: usize = 24;
 
-/// What the line stage comes to.
-#[derive(Debug, PartialEq)]
-pub enum Stage {
-    Through,
-    Refused { number: u8, line: usize },
+/// What a call answers: number 0 is an accepted source.
+#[derive(Debug)]
+pub struct Answer {
+    pub number: u32,
+    pub line: u64,
+    pub words: usize,
+    pub data_bytes: usize,
+    pub data_base: u64,
+    pub bss_size: u64,
+    pub labels: usize,
+    pub items: usize,
 }
 
-/// The buffers that a call is lent, each as long as its limit asks.
+/// A label's record, its name as a place in the text.
+pub struct Label {
+    pub start: usize,
+    pub len: usize,
+    pub address: u32,
+    pub line: u32,
+}
+
+/// What is looked at of an item's record. Kind 0 is an ordinary instruction
+/// line, whose one word is 0.
+pub struct Item {
+    pub address: u32,
+    pub line: u32,
+    pub kind: u32,
+    pub first_word: usize,
+}
+
+/// The buffers that a call is lent, each of its limit's full size.
 pub struct Buffers {
-    labels: Vec<u8>,
-    index: Vec<u16>,
-    equates: Vec<u8>,
-    exprs: Vec<u8>,
-    items: Vec<u8>,
-    data_bytes: Vec<u8>,
-    label_words: Vec<u8>,
+    pub words: Vec<u32>,
+    pub data_bytes: Vec<u8>,
+    pub labels: Vec<u8>,
+    pub equates: Vec<u8>,
+    pub items: Vec<u8>,
 }
+
+/// What the buffers hold before their first call, which clears them itself.
+const UNCLEARED: u8 = 0xA5;
 
 impl Buffers {
     pub fn new() -> Self {
         Buffers {
-            labels: vec![0; 1024 * 16],
-            index: vec![0; 1024 + 1024],
-            equates: vec![0; 256 * 24],
-            exprs: vec![0; 256 * 16],
-            items: vec![0; 2048 * 24],
-            data_bytes: vec![0; 65536],
-            label_words: vec![0; 1024 * 16],
+            words: vec![u32::from_le_bytes([UNCLEARED; 4]); 16384],
+            data_bytes: vec![UNCLEARED; 65536],
+            labels: vec![UNCLEARED; 1024 * LABEL_SIZE],
+            equates: vec![UNCLEARED; 256 * EQUATE_SIZE],
+            items: vec![UNCLEARED; 2048 * ITEM_SIZE],
         }
     }
 
-    /// The buffers by name, with their bytes: the caller's, then the stage's
-    /// own tables.
+    /// The buffers by name, with their bytes.
     pub fn sizes(&self) -> Vec<(&'static str, usize)> {
         vec![
+            ("words, lent", size_of_val(&self.words[..])),
+            ("data, lent", size_of_val(&self.data_bytes[..])),
             ("labels, lent", size_of_val(&self.labels[..])),
             ("equates, lent", size_of_val(&self.equates[..])),
             ("items, lent", size_of_val(&self.items[..])),
-            ("data, lent", size_of_val(&self.data_bytes[..])),
-            ("index over labels", size_of_val(&self.index[..])),
-            ("equates' expressions", size_of_val(&self.exprs[..])),
-            ("label words", size_of_val(&self.label_words[..])),
         ]
     }
 
-    fn clear(&mut self) {
-        self.labels.fill(0);
-        self.index.fill(0);
-        self.equates.fill(0);
-        self.exprs.fill(0);
-        self.items.fill(0);
-        self.data_bytes.fill(0);
-        self.label_words.fill(0);
-    }
-
-    /// The line stage, with the clearing of the buffers that it asks for.
-    pub fn line_stage(&mut self, text: &str) -> Stage {
-        assert!(text.len() <= TEXT_LIMIT, "the text is too long");
-        self.clear();
+    /// The call, at base 0.
+    pub fn assemble(&mut self, text: &str) -> Answer {
+        let mut counts = [0u64; 9];
         // SAFETY: each pointer and length is of one live buffer, and no two
-        // overlap. The contract is met: the text is within its limit, every
-        // buffer holds zeros, and the three tables have their exact lengths.
-        let answer = unsafe {
-            layout_line_stage(
+        // overlap. The contract asks nothing else.
+        let number = unsafe {
+            kodhlace_assemble(
                 text.as_ptr(),
                 text.len(),
-                self.labels.as_mut_ptr(),
-                self.labels.len(),
-                self.index.as_mut_ptr(),
-                self.index.len(),
-                self.equates.as_mut_ptr(),
-                self.equates.len(),
-                self.exprs.as_mut_ptr(),
-                self.exprs.len(),
-                self.items.as_mut_ptr(),
-                self.items.len(),
+                0,
+                self.words.as_mut_ptr(),
+                self.words.len(),
                 self.data_bytes.as_mut_ptr(),
                 self.data_bytes.len(),
-                self.label_words.as_mut_ptr(),
-                self.label_words.len(),
-                WORD_LIMIT,
+                self.labels.as_mut_ptr(),
+                self.labels.len(),
+                self.equates.as_mut_ptr(),
+                self.equates.len(),
+                self.items.as_mut_ptr(),
+                self.items.len(),
+                counts.as_mut_ptr(),
+                counts.len(),
             )
         };
-        match answer {
-            0 => Stage::Through,
-            _ => Stage::Refused {
-                number: (answer % 256) as u8,
-                line: (answer / 256) as usize,
-            },
+        let [line, words, data_bytes, data_base, bss_size, labels, _equates, items, _evaluations] =
+            counts;
+        Answer {
+            number,
+            line,
+            words: words as usize,
+            data_bytes: data_bytes as usize,
+            data_base,
+            bss_size,
+            labels: labels as usize,
+            items: items as usize,
         }
     }
+}
+
+// ---- records
+
+impl Buffers {
+    /// The labels of an answer, in their order.
+    pub fn labels(&self, answer: &Answer) -> impl Iterator<Item = Label> + '_ {
+        records(&self.labels, LABEL_SIZE, answer.labels).map(|record| Label {
+            start: field(record, 0) as usize,
+            len: field(record, 1) as usize,
+            address: field(record, 2),
+            line: field(record, 3),
+        })
+    }
+
+    /// The items of an answer, in text order.
+    pub fn items(&self, answer: &Answer) -> impl Iterator<Item = Item> + '_ {
+        records(&self.items, ITEM_SIZE, answer.items).map(|record| Item {
+            address: field(record, 0),
+            line: field(record, 1),
+            kind: field(record, 2),
+            first_word: field(record, 3) as usize,
+        })
+    }
+}
+
+fn records(buffer: &[u8], size: usize, count: usize) -> impl Iterator<Item = &[u8]> {
+    buffer.chunks_exact(size).take(count)
+}
+
+/// The kth field of four bytes.
+fn field(record: &[u8], k: usize) -> u32 {
+    let bytes = &record[4 * k..4 * k + 4];
+    u32::from_le_bytes(bytes.try_into().expect("four bytes"))
 }
 
 impl Default for Buffers {
     fn default() -> Self {
         Self::new()
     }
-}
-
-/// The number of 64 bits that a text is, or another where it is none.
-pub fn imm64_or(text: &str, other: i64) -> i64 {
-    // SAFETY: the pointer and the length are of one live text; the contract
-    // asks nothing else.
-    unsafe { layout_imm64_or(text.as_ptr(), text.len(), other) }
-}
-
-/// The same for 32 bits.
-pub fn imm_or(text: &str, other: i32) -> i32 {
-    // SAFETY: as above.
-    unsafe { layout_imm_or(text.as_ptr(), text.len(), other) }
 }

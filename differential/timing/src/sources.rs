@@ -1,72 +1,102 @@
 //! The sources that are timed: of every kind of line, each within the limits.
 //!
-//! Nothing here is random: every run makes the same texts. A text has room
-//! left for the last line, which both contenders refuse.
+//! Nothing here is random: every run makes the same texts.
 
 use std::fmt::Write;
 use std::{fs, io};
 
-use crate::ours::{Buffers, Stage, TEXT_LIMIT};
-use crate::reference::{first_pass, LAST_LINE};
-
-/// The longest text that the last line still fits behind.
-const SIZE_LIMIT: usize = TEXT_LIMIT - LAST_LINE.len();
+use crate::agreement::agree;
+use crate::ours::TEXT_LIMIT;
 
 const LABEL_LIMIT: usize = 1024;
 const LABEL_WORD_LIMIT: usize = 1024;
 const EQUATE_LIMIT: usize = 256;
 const ITEM_LIMIT: usize = 2048;
+const WORD_LIMIT: usize = 16384;
+
+/// How many times as fast as the reference ours is to be on a source.
+#[derive(Clone, Copy, PartialEq)]
+pub enum Goal {
+    /// On mixes of everything and on the examples.
+    Ordinary,
+    /// On sources of one kind of line alone, and on those made to be slow.
+    Worst,
+    /// None: a file, or what is measured to be known.
+    Open,
+}
+
+impl Goal {
+    pub fn times(self) -> Option<f64> {
+        match self {
+            Goal::Ordinary => Some(10.0),
+            Goal::Worst => Some(5.0),
+            Goal::Open => None,
+        }
+    }
+}
 
 /// A source by its name, with what stands in it.
 pub struct Source {
     pub name: String,
     pub what: String,
+    pub goal: Goal,
     pub text: String,
 }
 
-impl Source {
-    /// The text with the line that ends the first pass.
-    pub fn refused_text(&self) -> String {
-        let mut text = self.text.clone();
-        if !text.is_empty() && !text.ends_with('\n') {
-            text.push('\n');
-        }
-        text.push_str(LAST_LINE);
-        text
-    }
-}
-
-/// A name, what stands in it, and how it is made.
-type Kind = (&'static str, &'static str, fn() -> String);
+/// A name, what stands in it, its goal, and how it is made.
+type Kind = (&'static str, &'static str, Goal, fn() -> String);
 
 #[rustfmt::skip]
 const KINDS: &[Kind] = &[
-    ("mix", "a mix of instructions, data, labels and comments, 60 KB", || mix(60_000)),
-    ("mix-4k", "the same mix, 4 KB", || mix(4_000)),
-    ("instructions", "2,048 instructions", instructions),
-    ("pseudos", "2,048 pseudo-instructions", pseudos),
-    ("la", "1,024 labels, 2,048 `la` of them", la_of_labels),
-    ("decimal-bytes", "decimal bytes", decimal_bytes),
-    ("hex-bytes", "hexadecimal bytes", hex_bytes),
-    ("words", "words, decimal and hexadecimal", words),
-    ("odd-numbers", "numbers with signs and odd bases", odd_numbers),
-    ("strings", "strings", strings),
-    ("directives", "sections, alignments, spaces, `.globl`", directives),
-    ("comments", "comments", comments),
-    ("blank-lines", "blank lines", blank_lines),
-    ("white-space", "long white space", white_space),
-    ("labels", "1,024 labels, names in order", labels_in_order),
-    ("labels-first", "1,024 long labels that differ in their first bytes", labels_first),
-    ("labels-last", "1,024 long labels that differ at the end", labels_last),
-    ("labels-short", "1,024 labels of one to three bytes", labels_short),
-    ("last-again", "1,024 labels, the last one again and again", last_again),
-    ("backwards", "1,024 labels, then all from the last to the first", backwards),
-    ("label-words", "1,024 labels, 1,024 words of them", label_words),
-    ("equates", "256 equates by `.equ`", equates),
-    ("assignments", "256 equates by `name = expr`, long ones", assignments),
-    ("one-bucket", "one bucket, 1,024 labels of four bytes", one_bucket),
-    ("one-bucket-again", "one bucket, the first label again and again", one_bucket_again),
-    ("one-bucket-alike", "one bucket, labels that end alike, the first again and again", one_bucket_alike),
+    ("mix", "a mix of instructions, data, labels and comments, 60 KB", Goal::Ordinary, || mix(60_000)),
+    ("mix-4k", "the same mix, 4 KB", Goal::Ordinary, || mix(4_000)),
+    ("compass", "the example `compass.s`", Goal::Ordinary, || include_str!("../../../examples/compass.s").to_string()),
+    ("grid", "the example `grid.s`", Goal::Ordinary, || include_str!("../../../examples/grid.s").to_string()),
+    ("names", "the example `names.s`", Goal::Ordinary, || include_str!("../../../examples/names.s").to_string()),
+    ("panel", "the example `panel.s`", Goal::Ordinary, || include_str!("../../../examples/panel.s").to_string()),
+    ("instructions", "2,048 instructions", Goal::Worst, instructions),
+    ("pseudos", "2,048 pseudo-instructions", Goal::Worst, pseudos),
+    ("pseudo-space", "pseudo-instructions with long white space", Goal::Worst, pseudo_space),
+    ("random", "2,048 `random`, of eight words each", Goal::Worst, random),
+    ("print-str", "1,489 `print_str`, of eleven words each", Goal::Worst, print_str),
+    ("la", "1,024 labels, 2,048 `la` of them", Goal::Worst, la_of_labels),
+    ("li-equates", "256 equates, 2,048 `li` of them", Goal::Worst, li_of_equates),
+    ("decimal-bytes", "decimal bytes", Goal::Worst, decimal_bytes),
+    ("hex-bytes", "hexadecimal bytes", Goal::Worst, hex_bytes),
+    ("tight-bytes", "bytes of one digit, no blanks", Goal::Worst, tight_bytes),
+    ("words", "words, decimal and hexadecimal", Goal::Worst, words),
+    ("odd-numbers", "numbers with signs and odd bases", Goal::Worst, odd_numbers),
+    ("long-numbers", "numbers of 200 digits, zeros before them", Goal::Worst, long_numbers),
+    ("strings", "strings", Goal::Worst, strings),
+    ("long-string", "one string to the end of the text", Goal::Worst, long_string),
+    ("directives", "sections, alignments, spaces, `.globl`", Goal::Worst, directives),
+    ("comments", "comments", Goal::Worst, comments),
+    ("long-comment", "one comment to the end of the text", Goal::Worst, long_comment),
+    ("blank-lines", "blank lines", Goal::Worst, blank_lines),
+    ("spaces", "one line of blanks", Goal::Worst, spaces),
+    ("white-space", "instructions with long white space", Goal::Worst, white_space),
+    ("labels", "1,024 labels, names in order", Goal::Worst, labels_in_order),
+    ("labels-first", "1,024 long labels that differ in their first bytes", Goal::Worst, labels_first),
+    ("labels-last", "1,024 long labels that differ at the end", Goal::Worst, labels_last),
+    ("labels-shuffled", "1,024 long labels that differ at the end, out of order", Goal::Worst, labels_shuffled),
+    ("labels-short", "1,024 labels of one to three bytes", Goal::Worst, labels_short),
+    ("last-again", "1,024 labels, the last one again and again", Goal::Worst, last_again),
+    ("backwards", "1,024 labels, then all from the last to the first", Goal::Worst, backwards),
+    ("label-words", "1,024 labels, 1,024 words of them", Goal::Worst, label_words),
+    ("equates", "256 equates by `.equ`", Goal::Worst, equates),
+    ("assignments", "256 equates by `name = expr`, long ones", Goal::Worst, assignments),
+    ("equates-reverse", "256 equates, each of the one below and 14 numbers", Goal::Worst, equates_reverse),
+    ("equates-last", "256 equates, each of 14 numbers and the one below", Goal::Worst, equates_last),
+    ("equates-steps", "64 equates in reverse, 192 of all of these, one more found in each round", Goal::Worst, equates_steps),
+    ("one-bucket", "one bucket, 1,024 labels of four bytes", Goal::Worst, one_bucket),
+    ("one-bucket-again", "one bucket, the first label again and again", Goal::Worst, one_bucket_again),
+    ("one-bucket-alike", "one bucket, labels that end alike, the first again and again", Goal::Worst, one_bucket_alike),
+    ("one-bucket-la", "one bucket, 2,048 `la` of the first label", Goal::Worst, one_bucket_la),
+    ("one-bucket-words", "one bucket, 1,024 words of the first label", Goal::Worst, one_bucket_words),
+    ("one-bucket-terms", "one bucket, equates of the first label in every term", Goal::Worst, one_bucket_terms),
+    ("one-bucket-li", "one bucket, 256 equates, 2,048 `li` of the first", Goal::Worst, one_bucket_li),
+    ("one-bucket-reverse", "one bucket, 256 equates, each of the one below", Goal::Worst, one_bucket_reverse),
+    ("empty", "an empty text: the buffers' clearing alone", Goal::Open, String::new),
 ];
 
 /// The names of all kinds, in the tables' order.
@@ -74,7 +104,7 @@ pub fn names() -> Vec<String> {
     KINDS.iter().map(|kind| kind.0.to_string()).collect()
 }
 
-/// The chosen sources, or all kinds. Both contenders get to the end of each.
+/// The chosen sources, or all kinds. Both contenders accept each.
 pub fn sources(chosen: &[&str]) -> io::Result<Vec<Source>> {
     let all = names();
     let chosen = match chosen {
@@ -87,41 +117,22 @@ pub fn sources(chosen: &[&str]) -> io::Result<Vec<Source>> {
     Ok(made)
 }
 
-/// Both must refuse the last line and no other: else they did not do the same
-/// work.
 fn check(source: &Source) -> io::Result<()> {
-    let text = source.refused_text();
-    let last = text.lines().count() - 1;
-    let ours = Buffers::new().line_stage(&text);
-    let theirs = first_pass(&text);
-    let same = matches!(ours, Stage::Refused { line, .. } if line == last)
-        && matches!(theirs, Some((line, _)) if line == last);
-    if same {
-        return Ok(());
-    }
-    Err(io::Error::other(format!(
-        "{}: not both stop at line {last}, the last: ours {ours:?}, the reference {theirs:?}",
-        source.name
-    )))
+    agree(&source.text).map_err(|why| io::Error::other(format!("{}: {why}", source.name)))
 }
 
 /// A kind by its name, or else a file by its path.
 pub fn source(name: &str) -> io::Result<Source> {
-    let (what, text) = match KINDS.iter().find(|kind| kind.0 == name) {
-        Some(kind) => (kind.1.to_string(), kind.2()),
-        None => (format!("`{}`", file_name(name)), read(name)?),
+    let (what, goal, text) = match KINDS.iter().find(|kind| kind.0 == name) {
+        Some(kind) => (kind.1.to_string(), kind.2, kind.3()),
+        None => (format!("`{}`", file_name(name)), Goal::Open, read(name)?),
     };
-    let source = Source {
+    Ok(Source {
         name: name.to_string(),
         what,
+        goal,
         text,
-    };
-    if source.refused_text().len() > TEXT_LIMIT {
-        return Err(io::Error::other(format!(
-            "{name}: above {SIZE_LIMIT} bytes, so that the last line has no room"
-        )));
-    }
-    Ok(source)
+    })
 }
 
 fn read(path: &str) -> io::Result<String> {
@@ -154,6 +165,13 @@ fn extended(mut text: String, size: usize, line: impl Fn(usize) -> String) -> St
         text.push_str(&next);
     }
     text
+}
+
+/// A text of the limit's length: a beginning, the same again and again, an end.
+fn to_the_end(beginning: &str, again: &str, end: &str) -> String {
+    let room = TEXT_LIMIT - beginning.len() - end.len();
+    let middle: String = again.chars().cycle().take(room).collect();
+    format!("{beginning}{middle}{end}")
 }
 
 /// So many lines.
@@ -203,6 +221,23 @@ fn pseudos() -> String {
     })
 }
 
+fn pseudo_space() -> String {
+    let space = " \t".repeat(20);
+    filled(TEXT_LIMIT, |k| match k % 3 {
+        0 => format!("li {space}a0{space},{space}{}{space}\n", k % 2048),
+        1 => format!("li {space}a1{space},{space}0x{:x}{space}\n", k * 65_599),
+        _ => format!("push {space}ra{space}\n"),
+    })
+}
+
+fn random() -> String {
+    counted(ITEM_LIMIT, |k| format!("    random a{}\n", k % 8))
+}
+
+fn print_str() -> String {
+    "message:\n".to_string() + &counted(WORD_LIMIT / 11, |_| "    print_str message\n".to_string())
+}
+
 fn la_of_labels() -> String {
     counted(LABEL_LIMIT, |k| {
         format!(
@@ -212,10 +247,17 @@ fn la_of_labels() -> String {
     })
 }
 
+fn li_of_equates() -> String {
+    let lines = counted(ITEM_LIMIT, |k| {
+        format!("    li a0, size_{}\n", k * 7 % EQUATE_LIMIT)
+    });
+    equates() + &lines
+}
+
 // ---- data
 
 fn data(line: impl Fn(usize) -> String) -> String {
-    extended(".data\n".to_string(), SIZE_LIMIT, line)
+    extended(".data\n".to_string(), TEXT_LIMIT, line)
 }
 
 /// A directive with eight operands.
@@ -230,6 +272,10 @@ fn decimal_bytes() -> String {
 
 fn hex_bytes() -> String {
     data(|k| operands(".byte", k, |i| format!("0x{:02x}", i % 256)))
+}
+
+fn tight_bytes() -> String {
+    data(|k| format!(".byte {}{}\n", "1,2,3,4,5,6,7,8,".repeat(7), k % 10))
 }
 
 fn words() -> String {
@@ -259,12 +305,24 @@ fn odd_numbers() -> String {
     data(|k| operands(".word", k, |i| ODD[i % ODD.len()].to_string()))
 }
 
+fn long_numbers() -> String {
+    data(|k| format!(".word {k:0200}\n"))
+}
+
 fn strings() -> String {
     data(|k| match k % 3 {
         0 => format!("    .asciz \"row {k} of the display\"\n"),
         1 => "    .ascii \"temperature, pressure and height\"\n".to_string(),
         _ => "    .string \"\"\n".to_string(),
     })
+}
+
+fn long_string() -> String {
+    to_the_end(
+        ".data\n.ascii \"",
+        "temperature, pressure and height, ",
+        "\"\n",
+    )
 }
 
 fn directives() -> String {
@@ -280,25 +338,33 @@ fn directives() -> String {
         "    .skip 8\n",
         ".text\n",
     ];
-    filled(SIZE_LIMIT, |k| LINES[k % LINES.len()].to_string())
+    filled(TEXT_LIMIT, |k| LINES[k % LINES.len()].to_string())
 }
 
 // ---- what is passed over
 
 fn comments() -> String {
-    filled(SIZE_LIMIT, |k| match k % 2 {
+    filled(TEXT_LIMIT, |k| match k % 2 {
         0 => "# a comment that runs over the whole line, as most do\n".to_string(),
         _ => "    ; another: with a colon, an equals sign = and a quote '\n".to_string(),
     })
 }
 
+fn long_comment() -> String {
+    to_the_end("# ", "a comment that does not end, ", "\n")
+}
+
 fn blank_lines() -> String {
-    filled(SIZE_LIMIT, |_| "\n".to_string())
+    filled(TEXT_LIMIT, |_| "\n".to_string())
+}
+
+fn spaces() -> String {
+    to_the_end("", " \t", "\n")
 }
 
 fn white_space() -> String {
     let space = " \t".repeat(40);
-    filled(SIZE_LIMIT, |_| {
+    filled(TEXT_LIMIT, |_| {
         format!("{space}addi{space}t0,{space}t0,{space}1{space}\n")
     })
 }
@@ -325,13 +391,19 @@ fn labels_last() -> String {
     label_lines(|k| format!("the_same_in_every_name_from_the_start_{k:04x}"))
 }
 
+/// Ten bits reversed: halves that are merged always take turns.
+fn labels_shuffled() -> String {
+    let start = "the_same_in_every_name_from_the_start_and_for_a_long_way_";
+    label_lines(|k| format!("{start}{:04x}", (k as u16).reverse_bits() >> 6))
+}
+
 fn labels_short() -> String {
     label_lines(|k| format!("{k:x}"))
 }
 
 fn last_again() -> String {
     let name = |k: usize| format!("n{k:03x}_a_long_label");
-    extended(label_lines(name), SIZE_LIMIT, |_| {
+    extended(label_lines(name), TEXT_LIMIT, |_| {
         format!("{}:\n", name(LABEL_LIMIT - 1))
     })
 }
@@ -365,9 +437,33 @@ fn assignments() -> String {
     counted(EQUATE_LIMIT, |k| format!("size_{k} = . - {k}{terms}\n"))
 }
 
+/// Every equate but the last waits for the one below.
+fn equates_reverse() -> String {
+    let numbers: String = (1..=14).map(|n| format!(" + {n}")).collect();
+    reverse(|k| format!("e{k} = e{}{numbers}\n", k + 1))
+}
+
+/// The same, and the name stands last.
+fn equates_last() -> String {
+    let numbers: String = (1..=14).map(|n| format!("{n} + ")).collect();
+    reverse(|k| format!("e{k} = {numbers}e{}\n", k + 1))
+}
+
+fn reverse(line: impl Fn(usize) -> String) -> String {
+    counted(EQUATE_LIMIT, line) + &format!("e{EQUATE_LIMIT}: nop\n")
+}
+
+/// An expression that waits at its next term in every round.
+fn equates_steps() -> String {
+    const STEPS: usize = 64;
+    let terms: String = (0..STEPS).rev().map(|n| format!("+s{n}")).collect();
+    let users = counted(EQUATE_LIMIT - STEPS, |k| format!("u{k}={}\n", &terms[1..]));
+    users + &counted(STEPS, |k| format!("s{k}=s{}\n", k + 1)) + &format!("s{STEPS}:\n")
+}
+
 // ---- names of one bucket
 
-/// The bucket of a name in our index over labels, of 1,024. Nothing holds this
+/// The bucket of a name in our indexes over labels and equates, of 1,024. Nothing holds this
 /// to the index's definition, which it repeats: change both together.
 fn bucket(name: &[u8]) -> u32 {
     const FACTOR: u32 = 2_654_435_761;
@@ -378,11 +474,12 @@ fn bucket(name: &[u8]) -> u32 {
     hash.wrapping_mul(FACTOR) >> 22
 }
 
-/// As many names of bucket 0 as labels are taken, found by trying four letters
-/// and digits before one and the same end.
+/// As many names of bucket 0 as labels are taken, found by trying a letter and
+/// three letters or digits before one and the same end.
 fn bucket_names(end: &str) -> Vec<String> {
     (0..36u32.pow(4))
         .map(|k| format!("{}{end}", four_digits(k)))
+        .filter(|name| name.starts_with(|first: char| first.is_ascii_alphabetic()))
         .filter(|name| bucket(name.as_bytes()) == 0)
         .take(LABEL_LIMIT)
         .collect()
@@ -406,7 +503,7 @@ fn bucket_lines(names: &[String]) -> String {
 /// The first name is the last one on the bucket's way: each time it is
 /// defined again, all the others are passed.
 fn first_again(names: &[String]) -> String {
-    extended(bucket_lines(names), SIZE_LIMIT, |_| {
+    extended(bucket_lines(names), TEXT_LIMIT, |_| {
         format!("{}:\n", names[0])
     })
 }
@@ -419,4 +516,35 @@ fn one_bucket_again() -> String {
 /// cost more. A longer end would leave room for fewer lines.
 fn one_bucket_alike() -> String {
     first_again(&bucket_names("_end"))
+}
+
+fn one_bucket_la() -> String {
+    let names = bucket_names("");
+    let lines = counted(ITEM_LIMIT, |_| format!("la a0, {}\n", names[0]));
+    bucket_lines(&names) + &lines
+}
+
+fn one_bucket_words() -> String {
+    let names = bucket_names("");
+    let lines = counted(LABEL_WORD_LIMIT, |_| format!(".word {}\n", names[0]));
+    bucket_lines(&names) + ".data\n" + &lines
+}
+
+fn one_bucket_terms() -> String {
+    let names = bucket_names("");
+    let terms = vec![names[0].as_str(); 45].join("+");
+    bucket_lines(&names) + &counted(EQUATE_LIMIT, |k| format!("{k}={terms}\n"))
+}
+
+fn one_bucket_li() -> String {
+    let names = bucket_names("");
+    let values = counted(EQUATE_LIMIT, |k| format!("{}={k}\n", names[k]));
+    values + &counted(ITEM_LIMIT, |_| format!("li a0, {}\n", names[0]))
+}
+
+/// Names and rounds together: every round looks each pending name up.
+fn one_bucket_reverse() -> String {
+    let names = bucket_names("");
+    let values = counted(EQUATE_LIMIT, |k| format!("{}={}\n", names[k], names[k + 1]));
+    values + &format!("{}:\n", names[EQUATE_LIMIT])
 }

@@ -1,64 +1,132 @@
-//! Times of a call: the least of many rounds, in which each contender has its
-//! turn. It is this thread's time on the processor, so that other programs at
-//! work count less.
+//! Times of a call: the median of many rounds, in which each contender has its
+//! turn. The rounds are spread over several passes through all sources, so that
+//! what else runs on the machine for a while is not all on one source. It is
+//! this thread's time on the processor, so that other programs count less.
 
 use std::hint::black_box;
-use std::io;
 use std::time::Duration;
 
 use timing::figures::{grouped, ratio};
 use timing::ours::Buffers;
 use timing::reference;
-use timing::sources::{sources, Source};
+use timing::sources::{Goal, Source};
 
-const ROUNDS: usize = 30;
+const PASSES: usize = 5;
+
+/// In each pass. With an odd number of both, one round is the median.
+const ROUNDS: usize = 9;
 
 /// What the calls of one contender's turn take together, at least.
 const TURN: Duration = Duration::from_millis(2);
 
-pub fn table(chosen: &[&str]) -> io::Result<()> {
-    let sources = sources(chosen)?;
-    println!("| source | bytes | ours, µs | reference, µs | its comment scans, µs | times as fast | without the scans |");
-    println!("|---|---|---|---|---|---|---|");
-    sources.iter().for_each(row);
-    Ok(())
+/// Ours, the reference's, and its comment scans': a call's time in seconds.
+type Times = [f64; 3];
+
+/// Prints the table; gives how many times as fast ours is on each source.
+pub fn table(sources: &[Source]) -> Vec<f64> {
+    let times = median_times(sources);
+    println!("| source | bytes | ours, µs | reference, µs | its comment scans, µs | times as fast | without the scans | goal |");
+    println!("|---|---|---|---|---|---|---|---|");
+    sources
+        .iter()
+        .zip(times)
+        .map(|(source, times)| row(source, times))
+        .collect()
 }
 
-fn row(source: &Source) {
-    let text = source.refused_text();
-    let mut buffers = Buffers::new();
-    let [ours, theirs, scans] = least_times([
-        &mut || {
-            black_box(buffers.line_stage(black_box(&text)));
-        },
-        &mut || {
-            black_box(reference::first_pass(black_box(&text)));
-        },
-        &mut || reference::comment_scans(black_box(&text)),
-    ]);
+fn row(source: &Source, [ours, theirs, scans]: Times) -> f64 {
     println!(
-        "| {} | {} | {:.1} | {:.1} | {:.1} | {} | {} |",
+        "| {} | {} | {:.1} | {:.1} | {:.1} | {} | {} | {} |",
         source.what,
-        grouped(text.len() as u64),
+        grouped(source.text.len() as u64),
         ours * 1e6,
         theirs * 1e6,
         scans * 1e6,
         ratio(theirs, ours),
         ratio(theirs - scans, ours),
+        verdict(source.goal, theirs / ours),
     );
+    theirs / ours
 }
 
-/// The least time of each call, in seconds.
-pub fn least_times<const N: usize>(mut calls: [&mut dyn FnMut(); N]) -> [f64; N] {
-    let counts = calls.each_mut().map(|call| enough_calls(call));
-    let mut least = [f64::INFINITY; N];
-    for _ in 0..ROUNDS {
-        for i in 0..N {
-            let time = turn(calls[i], counts[i]).as_secs_f64() / f64::from(counts[i]);
-            least[i] = least[i].min(time);
+fn verdict(goal: Goal, reached: f64) -> String {
+    match goal.times() {
+        None => String::new(),
+        Some(times) if reached >= times => format!("{times}, met"),
+        Some(times) => format!("{times}, missed"),
+    }
+}
+
+/// The goals, and on which sources each is missed.
+pub fn goals(sources: &[Source], reached: &[f64]) {
+    for (goal, whose) in [
+        (Goal::Ordinary, "mixes and examples"),
+        (Goal::Worst, "worst cases"),
+    ] {
+        let Some(times) = goal.times() else { continue };
+        let measured: Vec<_> = sources
+            .iter()
+            .zip(reached)
+            .filter(|pair| pair.0.goal == goal)
+            .collect();
+        let missed: Vec<String> = measured
+            .iter()
+            .filter(|pair| *pair.1 < times)
+            .map(|(source, reached)| format!("`{}` ({})", source.name, ratio(**reached, 1.0)))
+            .collect();
+        print!(
+            "- {times} times as fast on {whose}: met on {} of {}.",
+            measured.len() - missed.len(),
+            measured.len()
+        );
+        match missed.as_slice() {
+            [] => println!(),
+            _ => println!(" Missed on {}.", missed.join(", ")),
         }
     }
-    least
+}
+
+/// The median times on each source.
+fn median_times(sources: &[Source]) -> Vec<Times> {
+    let mut rounds: Vec<Vec<Times>> = sources.iter().map(|_| Vec::new()).collect();
+    for _ in 0..PASSES {
+        for (source, rounds) in sources.iter().zip(&mut rounds) {
+            rounds.extend(pass(&source.text));
+        }
+    }
+    rounds.iter().map(|rounds| median(rounds)).collect()
+}
+
+/// The rounds of one pass on a source.
+fn pass(text: &str) -> Vec<Times> {
+    let mut buffers = Buffers::new();
+    let mut calls: [&mut dyn FnMut(); 3] = [
+        &mut || {
+            black_box(buffers.assemble(black_box(text)));
+        },
+        &mut || {
+            let _ = black_box(reference::assemble(black_box(text)));
+        },
+        &mut || reference::comment_scans(black_box(text)),
+    ];
+    let counts = calls.each_mut().map(|call| enough_calls(call));
+    let mut round = || {
+        let mut times = [0.0; 3];
+        for ((time, call), count) in times.iter_mut().zip(&mut calls).zip(counts) {
+            *time = turn(call, count).as_secs_f64() / f64::from(count);
+        }
+        times
+    };
+    (0..ROUNDS).map(|_| round()).collect()
+}
+
+/// Each contender's median.
+fn median(rounds: &[Times]) -> Times {
+    [0, 1, 2].map(|who| {
+        let mut times: Vec<f64> = rounds.iter().map(|round| round[who]).collect();
+        times.sort_by(f64::total_cmp);
+        times[times.len() / 2]
+    })
 }
 
 /// How many calls make a turn. Trying it out also warms the caches up.

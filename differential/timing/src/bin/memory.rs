@@ -12,17 +12,19 @@ use std::{env, io, thread};
 
 use timing::figures::{grouped, ratio};
 use timing::ours::Buffers;
-use timing::reference::first_pass;
+use timing::reference;
 use timing::sources::{sources, Source};
 
-/// The system's allocator, with the bytes that are in use and the most that
-/// ever were.
+/// The system's allocator, with how often it was asked, the bytes that are in
+/// use and the most that ever were.
 struct Counting;
 
+static ASKED: AtomicUsize = AtomicUsize::new(0);
 static IN_USE: AtomicUsize = AtomicUsize::new(0);
 static PEAK: AtomicUsize = AtomicUsize::new(0);
 
 fn taken(bytes: usize) {
+    ASKED.fetch_add(1, Relaxed);
     let now = IN_USE.fetch_add(bytes, Relaxed) + bytes;
     PEAK.fetch_max(now, Relaxed);
 }
@@ -69,18 +71,26 @@ fn tables(chosen: &[&str]) -> io::Result<()> {
     let sources = sources(chosen)?;
     let ours = our_table(&sources);
     println!();
-    println!("| source | reference's peak heap | reference / ours |");
-    println!("|---|---|---|");
+    println!(
+        "| source | our allocations | reference's allocations | its peak heap | peak heap / ours |"
+    );
+    println!("|---|---|---|---|---|");
     for source in &sources {
-        let text = source.refused_text();
-        let theirs = peak_heap(|| {
-            black_box(first_pass(black_box(&text)));
+        let text = source.text.as_str();
+        let mut buffers = Buffers::new();
+        let (our_count, _) = heap(|| {
+            black_box(buffers.assemble(black_box(text)));
+        });
+        let (their_count, peak) = heap(|| {
+            let _ = black_box(reference::assemble(black_box(text)));
         });
         println!(
-            "| {} | {} | {} |",
+            "| {} | {} | {} | {} | {} |",
             source.what,
-            grouped(theirs as u64),
-            ratio(theirs as f64, ours as f64)
+            grouped(our_count as u64),
+            grouped(their_count as u64),
+            grouped(peak as u64),
+            ratio(peak as f64, ours as f64)
         );
     }
     Ok(())
@@ -100,12 +110,12 @@ fn our_table(sources: &[Source]) -> usize {
     total
 }
 
-/// The most that a call has in use at one time, above what was in use before.
-fn peak_heap(call: impl Fn()) -> usize {
-    let before = IN_USE.load(Relaxed);
-    PEAK.store(before, Relaxed);
+/// How often a call asks for heap, and the most that it has in use at one time.
+fn heap(call: impl FnOnce()) -> (usize, usize) {
+    let (asked, in_use) = (ASKED.load(Relaxed), IN_USE.load(Relaxed));
+    PEAK.store(in_use, Relaxed);
     call();
-    PEAK.load(Relaxed) - before
+    (ASKED.load(Relaxed) - asked, PEAK.load(Relaxed) - in_use)
 }
 
 // ---- the stack
@@ -113,21 +123,23 @@ fn peak_heap(call: impl Fn()) -> usize {
 /// The most stack that our call takes on any of the sources.
 fn our_stack(sources: &[Source]) -> usize {
     let depths = sources.iter().map(|source| {
-        let text = source.refused_text();
-        thread::spawn(move || {
-            let mut buffers = Buffers::new();
-            stack_depth(&mut || {
-                black_box(buffers.line_stage(&text));
+        let text = source.text.clone();
+        thread::Builder::new()
+            .stack_size(2 * LOOKED_AT)
+            .spawn(move || {
+                let mut buffers = Buffers::new();
+                stack_depth(&mut || {
+                    black_box(buffers.assemble(&text));
+                })
             })
-        })
-        .join()
-        .expect("the call does not panic")
+            .and_then(|thread| thread.join().map_err(|_| io::Error::other("it panicked")))
+            .expect("the call comes to its end in a thread of its own")
     });
     depths.max().unwrap_or(0)
 }
 
-/// How far down the stack is looked at: far less than a thread has.
-const LOOKED_AT: usize = 64 * 1024;
+/// How far down the stack is looked at.
+const LOOKED_AT: usize = 1024 * 1024;
 
 /// Left free below the function that looks: its own frame.
 const OWN_FRAME: usize = 512;

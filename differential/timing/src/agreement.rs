@@ -1,0 +1,96 @@
+//! That both contenders accept a source and answer the same of it: else they
+//! did not do the same work, and their times say nothing.
+
+use crate::ours::{Answer, Buffers};
+use crate::reference::{assemble, Program};
+
+/// Nothing, or the first thing in which they differ.
+pub fn agree(text: &str) -> Result<(), String> {
+    let mut buffers = Buffers::new();
+    let ours = buffers.assemble(text);
+    let theirs = assemble(text).map_err(|error| format!("the reference refuses it: {error}"))?;
+    if ours.number != 0 {
+        return Err(format!("ours refuses it: {ours:?}"));
+    }
+    let parts = [
+        ("words", same_words(&ours, &buffers, &theirs)),
+        (
+            "data",
+            zeros_after(&theirs.data, &buffers.data_bytes) && ours.data_bytes == theirs.data.len(),
+        ),
+        ("data base", ours.data_base == u64::from(theirs.data_base)),
+        ("bss size", ours.bss_size == u64::from(theirs.bss_size)),
+        (
+            "labels",
+            our_labels(&ours, &buffers, text) == their_labels(&theirs),
+        ),
+        ("items", our_items(&ours, &buffers) == their_items(&theirs)),
+    ];
+    match parts.iter().find(|part| !part.1) {
+        Some((what, _)) => Err(format!("not the same {what}")),
+        None => Ok(()),
+    }
+}
+
+/// Is this what the buffer begins with, and only zeros after it?
+fn zeros_after<T: PartialEq + Default>(expected: &[T], buffer: &[T]) -> bool {
+    buffer.len() >= expected.len() && {
+        let (used, rest) = buffer.split_at(expected.len());
+        used == expected && rest.iter().all(|value| *value == T::default())
+    }
+}
+
+// ---- words and items
+
+/// Ours has a 0 for the word of an ordinary instruction line.
+fn same_words(ours: &Answer, buffers: &Buffers, theirs: &Program) -> bool {
+    let mut expected = theirs.text.clone();
+    for item in buffers.items(ours).filter(|item| item.kind == 0) {
+        match expected.get_mut(item.first_word) {
+            Some(word) => *word = 0,
+            None => return false,
+        }
+    }
+    ours.words == expected.len() && zeros_after(&expected, &buffers.words)
+}
+
+/// Line and address of each item; no line has two.
+fn our_items(ours: &Answer, buffers: &Buffers) -> Vec<(u32, u32)> {
+    buffers
+        .items(ours)
+        .map(|item| (item.line, item.address))
+        .collect()
+}
+
+fn their_items(theirs: &Program) -> Vec<(u32, u32)> {
+    let lines = theirs.line_addrs.iter();
+    let mut items: Vec<(u32, u32)> = lines
+        .map(|(&line, &address)| (line as u32, address))
+        .collect();
+    items.sort_unstable();
+    items
+}
+
+// ---- labels
+
+/// Address, name and line of each label, in their order.
+fn our_labels<'a>(ours: &Answer, buffers: &Buffers, text: &'a str) -> Vec<(u32, &'a str, u32)> {
+    buffers
+        .labels(ours)
+        .map(|label| {
+            let name = &text[label.start..label.start + label.len];
+            (label.address, name, label.line)
+        })
+        .collect()
+}
+
+fn their_labels(theirs: &Program) -> Vec<(u32, &str, u32)> {
+    let mut labels = Vec::new();
+    for (&address, names) in &theirs.labels {
+        for name in names {
+            labels.push((address, name.as_str(), theirs.label_to_line[name] as u32));
+        }
+    }
+    labels.sort_unstable();
+    labels
+}
