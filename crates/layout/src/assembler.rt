@@ -129,6 +129,7 @@ fn after_lines(
     let own = rest.own;
     let stored = own.stored;
     let counted = own.items;
+    // the index over equates, 1,024 buckets and an entry each, and where each waits
     let mut equate_index = [0u16; 1280];
     let mut waits = [0u32; 256];
     match resolve_symbols(
@@ -146,6 +147,7 @@ fn after_lines(
     ) {
         Resolved::Through(evaluations) => {
             let starts = Starts::of(base, stored.bytes);
+            // for a name with its white-space runs made one space, then for the labels' records
             let mut scratch = [0u8; 65536];
             match emit_items(
                 text,
@@ -196,6 +198,7 @@ fn lay_lines(
     ensures { λ r. ⌜ LaidAgrees (buffersNow (words .exit) («data_bytes» .exit) (labels .exit) (equates .exit) (items .exit)) r
         (linesOf (now (text .entry)) base (lengths (buffersNow (words .entry) («data_bytes» .entry) (labels .entry) (equates .entry) (items .entry)))) ⌝ }
 {
+    // the stage's own tables, as large as their limits ask: the index over labels, expressions, label words
     let mut label_index = [0u16; 2048];
     let mut exprs = [0u8; 4096];
     let mut label_words = [0u8; 16384];
