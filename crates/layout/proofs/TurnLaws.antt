@@ -7,7 +7,7 @@ use mathlib.Core.Path.{_≡_, refl, sym, ap, ap₂, subst, _∙_}
 use mathlib.Core.Bool.{Bool, true, false}
 use mathlib.Core.List.{List, [], _∷_}
 use lib.Dec.{eqb}
-use lib.ListN.{length, take, drop, replicate, length-drop, length-replicate, drop-of-length-le}
+use lib.ListN.{length, take, drop, replicate, length-drop, drop-of-length-le}
 use lib.Seq.{drop-drop, length-take-le}
 use Rattle.numbers.specs.Results.{Result, value, refused, andThen}
 use Rattle.numbers.specs.declared.text.Span.{Span}
@@ -215,15 +215,3 @@ module _ (t : List ℕ) (words : ℕ) (l n e x i d w : List ℕ) where
           };
         };
       }
-
--- the same by how many zeros each buffer has
-pub start-zeros : (t : List ℕ) (words l e i d : ℕ)
-    → Stands t (roomOf (record { words = words; dataBytes = d; labelBytes = l; equateBytes = e; itemBytes = i })) startCounters
-    (store (replicate l 0) (replicate labelIndexRoom 0) (replicate e 0) (replicate exprRoom 0) (replicate i 0) (replicate d 0) (replicate labelWordRoom 0)) start
-start-zeros t words l e i d =
-    rw (length-replicate {A = ℕ} l 0, length-replicate {A = ℕ} e 0, length-replicate {A = ℕ} i 0, length-replicate {A = ℕ} d 0) at
-    (start-stands t words (replicate l 0) (replicate labelIndexRoom 0) (replicate e 0) (replicate exprRoom 0) (replicate i 0) (replicate d 0) (replicate labelWordRoom 0)
-    (length-replicate {A = ℕ} labelIndexRoom 0) (length-replicate {A = ℕ} exprRoom 0) (length-replicate {A = ℕ} labelWordRoom 0) (zeros l) (zeros labelIndexRoom) (zeros e) (zeros exprRoom) (zeros i) (zeros d) (zeros labelWordRoom))
-  where
-    zeros : (n : ℕ) → replicate {A = ℕ} n 0 ≡ replicate (length (replicate {A = ℕ} n 0)) 0
-    zeros n = ap (λ (m : ℕ). replicate m 0) (sym (length-replicate {A = ℕ} n 0))
