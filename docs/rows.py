@@ -1,4 +1,4 @@
-"""The tables of a document, the sources that stand in them, and the Rust reference; for check-refusals and check-differences.
+"""The tables of a document, the sources that stand in them, the Rust reference and the second model; for check-refusals and check-differences.
 
 A source in a table is its lines in order, each in a code span, a comma and a blank between them; each line is ended by LF. In a code span `<tab>` and
 `<byte N>` (N decimal) stand for that byte, and `\\|` for `|`. "1,025 lines `aN:`" is so many lines, N counting from 1 in them; "5 blanks" is so many
@@ -8,6 +8,9 @@ import os, re, subprocess, tempfile
 
 ROOT = os.path.normpath(os.path.join(os.path.dirname(os.path.abspath(__file__)), '..'))
 REFERENCE = os.path.join(ROOT, 'differential', 'target', 'release', 'differential')
+COMPARE = os.path.join(ROOT, 'differential', 'compare')
+# A folder of its own, so that a `compare` with the library stays as it is.
+BUILT = os.path.join(COMPARE, 'target', 'alone')
 
 
 class Row:
@@ -113,9 +116,12 @@ def smaller(cell):
 
 
 def build_reference():
-    made = subprocess.run(['cargo', 'build', '--release', '--quiet', '--manifest-path', os.path.join(ROOT, 'differential', 'Cargo.toml')])
-    if made.returncode:
-        raise SystemExit('the reference could not be built')
+    """The reference, and the model that is held to it."""
+    build = ['cargo', 'build', '--release', '--quiet', '--manifest-path']
+    model = ['--no-default-features', '--target-dir', BUILT]
+    for command in (build + [os.path.join(ROOT, 'differential', 'Cargo.toml')], build + [os.path.join(COMPARE, 'Cargo.toml')] + model):
+        if subprocess.run(command).returncode:
+            raise SystemExit('the reference could not be built')
 
 
 def ask_reference(command, *arguments):
@@ -145,8 +151,15 @@ class Sources:
         return ask_reference('assemble-at', str(base), self.file('source.s', text))
 
     def laid(self, text, base=0):
-        """The answer as the lists have it: its fields, the first `ok`, `no` or `left out: ..`."""
-        return ask_reference('layout-answer', self.file('source.s', text), str(base)).split('\t')
+        """The model's answer once it is held to the reference, in the lines of docs/call.c; one line `error: ..` where they differ, and one
+        line `outside the domain: ..` where the text is not compared."""
+        path = self.file('source.s', text)
+        ran = subprocess.run([os.path.join(BUILT, 'release', 'compare'), 'answer', path, str(base)], capture_output=True, text=True)
+        if ran.returncode:
+            return ['error: ' + ran.stderr.strip()]
+        lines = ran.stdout.rstrip('\n').split('\n')
+        return lines[-1:] if lines[-1].startswith('outside the domain: ') else lines
+
 
 # What is lent in full: words, and bytes of the other four.
 FULL = {'words': 16384, 'data': 65536, 'labels': 1024 * 16, 'equates': 256 * 24, 'items': 2048 * 24}

@@ -2,7 +2,6 @@
 //! and how it is asked and its answers are read, which these programs share.
 
 pub mod asking;
-pub mod cases;
 pub mod falcon;
 pub mod random;
 pub mod refusals;

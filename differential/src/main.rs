@@ -3,24 +3,20 @@
 //! Each subcommand is one small function here; a generator of cases is a
 //! module of its own.
 
+mod cases;
 mod encoder;
-mod equates;
 mod gnu;
-mod layout;
 mod numbers;
 
 use std::path::Path;
 use std::process::ExitCode;
 use std::{env, fs, io};
 
-use differential::{asking, cases, falcon, random, refusals, sources, statements};
+use differential::{falcon, random};
 use falcon::asm::assembler::assemble;
 
 const USAGE: &str = "usage: differential numbers DIR
        differential encoder DIR
-       differential layout DIR
-       differential layout-stage DIR FILE...
-       differential layout-answer FILE BASE
        differential assemble FILE...
        differential assemble-at BASE FILE...
        differential encode CASE FIELD FIELD FIELD";
@@ -36,9 +32,6 @@ fn main() -> ExitCode {
         ("encoder", [directory]) => {
             encoder::all_cases().and_then(|text| write_cases(directory, &text))
         }
-        ("layout", [directory]) => write_sources(directory),
-        ("layout-stage", [directory, files @ ..]) => write_stage(directory, files),
-        ("layout-answer", [file, base]) => answer_file(file, base),
         ("assemble", [_, ..]) => rest.iter().try_for_each(|file| assemble_file(file, 0)),
         ("assemble-at", [base, files @ ..]) if !files.is_empty() => read_base(base)
             .and_then(|base| files.iter().try_for_each(|file| assemble_file(file, base))),
@@ -56,40 +49,8 @@ fn main() -> ExitCode {
 
 /// Writes the case list `DIR/cases`; the directory is made if it is missing.
 fn write_cases(directory: &str, text: &str) -> io::Result<()> {
-    write_file(directory, "cases", text)
-}
-
-fn write_file(directory: &str, name: &str, text: &str) -> io::Result<()> {
     fs::create_dir_all(directory)?;
-    fs::write(Path::new(directory).join(name), text)
-}
-
-/// Writes `DIR/sources` and prints how many sources got which answer.
-fn write_sources(directory: &str) -> io::Result<()> {
-    let (text, counts) = layout::all_cases();
-    print_counts(counts);
-    write_file(directory, "sources", &text)
-}
-
-/// Writes the stages' list, with the files' texts in it.
-fn write_stage(directory: &str, files: &[String]) -> io::Result<()> {
-    let texts: io::Result<Vec<String>> = files.iter().map(|file| read_source(file)).collect();
-    let (text, counts) = layout::stage_cases(&texts?);
-    print_counts(counts);
-    write_cases(directory, &text)
-}
-
-fn print_counts(counts: layout::Counts) {
-    for (answer, count) in counts {
-        println!("{count:6} {answer}");
-    }
-}
-
-/// Prints the layout list's answer for one file at a decimal base.
-fn answer_file(file: &str, base: &str) -> io::Result<()> {
-    let source = read_source(file)?;
-    println!("{}", layout::answer_line(&source, read_base(base)?));
-    Ok(())
+    fs::write(Path::new(directory).join("cases"), text)
 }
 
 fn read_base(base: &str) -> io::Result<u32> {

@@ -46,9 +46,6 @@ const MESSAGES: [(&str, u32); 32] = [
 /// The last number that is given while the lines are read, in their order.
 pub const LAST_OF_LINES: u32 = 12;
 
-/// The last number that is given before the pseudos are expanded.
-pub const LAST_OF_ROUNDS: u32 = 17;
-
 /// The number of a refusal; none for an ordinary line's, or for `.float`'s
 /// operand, which document 01 never comes to.
 pub fn number_of(text: &str, error: &AsmError) -> Option<u32> {

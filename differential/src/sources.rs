@@ -1,5 +1,5 @@
-//! The sources of the layout list, made by small builders: each puts every
-//! choice for one thing into a few lines that show what came of it.
+//! Small sources made by topic: each builder puts every choice for one thing
+//! into a few lines that show what came of it.
 
 use std::collections::BTreeSet;
 
@@ -33,13 +33,13 @@ pub const BUILDERS: [Builder; 11] = [
     add_random,
 ];
 
-/// Builders whose sources are all in the list for the stages.
-pub const WHOLE: [Builder; 3] = [add_name_edges, add_good_pseudos, add_symbols];
+/// Further builders, whose sources stand behind those of the others.
+pub const FURTHER: [Builder; 3] = [add_name_edges, add_good_pseudos, add_symbols];
 
 /// The builder of the sources whose sums go beyond 64 signed bits.
 pub const BEYOND: Builder = add_beyond;
 
-/// The sources of some builders, in the list's order.
+/// The sources of some builders, in order.
 pub fn built(builders: &[Builder]) -> Vec<(String, u32)> {
     let mut sources = Sources {
         found: BTreeSet::new(),
@@ -847,8 +847,7 @@ fn add_limits(sources: &mut Sources) {
 // ---------- symbols ----------
 
 /// Sources for the symbols' records: what they show is each value, its round
-/// and the evaluations, or the line that is refused. They are in the stages'
-/// list alone.
+/// and the evaluations, or the line that is refused.
 fn add_symbols(sources: &mut Sources) {
     add_long_chains(sources);
     add_waiting(sources);
@@ -1625,7 +1624,7 @@ fn add_label_words(sources: &mut Sources) {
 }
 
 /// Bytes at both sides of each edge of what a name may hold, as a `.word`'s
-/// first byte and as a later one. They are in the stages' list alone.
+/// first byte and as a later one.
 fn add_name_edges(sources: &mut Sources) {
     for byte in "@AZ[^_`az{/09:-.$".chars() {
         sources.add(&format!(".data\ny: .word {byte}\n"));

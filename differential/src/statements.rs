@@ -2,42 +2,26 @@
 
 use crate::falcon::asm::utils::preprocess;
 
-#[derive(Clone, Copy, PartialEq)]
-pub enum Section {
-    Text,
-    Data,
-    Bss,
-}
-
-/// A line's label, what is left after it, and the section it stands in.
+/// What is left of a line behind its label.
 pub struct Statement {
     pub line: usize,
-    pub section: Section,
-    pub label: Option<String>,
     pub text: String,
 }
 
 /// The statements of a source, up to its first bad section name.
 pub fn statements(text: &str) -> Vec<Statement> {
-    let mut section = Section::Text;
     let mut found = Vec::new();
     for (line, raw) in preprocess(text) {
         if let Some(name) = section_name(&raw) {
-            match section_named(&name) {
-                Some(next) => section = next.unwrap_or(section),
-                None => break,
+            if !is_section(&name) {
+                break;
             }
         } else {
-            let (label, text) = match raw.split_once(':') {
-                Some((label, rest)) => (Some(label.trim().to_string()), rest.trim().to_string()),
-                None => (None, raw),
+            let text = match raw.split_once(':') {
+                Some((_, rest)) => rest.trim().to_string(),
+                None => raw,
             };
-            found.push(Statement {
-                line,
-                section,
-                label,
-                text,
-            });
+            found.push(Statement { line, text });
         }
     }
     found
@@ -53,14 +37,11 @@ fn section_name(line: &str) -> Option<String> {
     Some(name.unwrap_or("").to_string())
 }
 
-/// The section of that name; `Some(None)` for the name that changes nothing.
-fn section_named(name: &str) -> Option<Option<Section>> {
+fn is_section(name: &str) -> bool {
     match name.strip_prefix('.').unwrap_or(name) {
-        "text" => Some(Some(Section::Text)),
-        "data" | "rodata" | "sdata" | "srodata" => Some(Some(Section::Data)),
-        "bss" | "sbss" => Some(Some(Section::Bss)),
-        "note.GNU-stack" if name.starts_with('.') => Some(None),
-        _ => None,
+        "text" | "data" | "rodata" | "sdata" | "srodata" | "bss" | "sbss" => true,
+        "note.GNU-stack" => name.starts_with('.'),
+        _ => false,
     }
 }
 
@@ -81,18 +62,6 @@ const PSEUDOS: [(&str, usize, bool); 12] = [
     ("random", 8, true),
 ];
 
-/// The four pseudos that document 01 refuses.
-const OTHER_PSEUDOS: [(&str, bool); 8] = [
-    ("print_str_ln", true),
-    ("printStrLn", true),
-    ("read_half", true),
-    ("readHalf", true),
-    ("read_word", true),
-    ("readWord", true),
-    ("random_bytes", false),
-    ("randomBytes", false),
-];
-
 fn begins_with(statement: &str, name: &str, may_end: bool) -> bool {
     match statement.strip_prefix(name) {
         Some("") => may_end,
@@ -105,9 +74,4 @@ pub fn pseudo_words(statement: &str) -> Option<usize> {
     let mut pseudos = PSEUDOS.iter();
     let found = pseudos.find(|(name, _, may_end)| begins_with(statement, name, *may_end));
     found.map(|(_, words, _)| *words)
-}
-
-pub fn is_other_pseudo(statement: &str) -> bool {
-    let mut others = OTHER_PSEUDOS.iter();
-    others.any(|(name, may_end)| begins_with(statement, name, *may_end))
 }

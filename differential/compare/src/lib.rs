@@ -10,3 +10,4 @@ pub mod ours;
 pub mod pool;
 pub mod reference;
 pub mod run;
+pub mod shown;

@@ -6,10 +6,11 @@ use std::{env, fs, io};
 
 use compare::generate::{Generator, Kind};
 use compare::model::{self, Lent};
-use compare::{list, pool, reference, run};
+use compare::{list, pool, reference, run, shown};
 
 const USAGE: &str = "usage: compare run --seed S --count N [--kind K]
        compare one FILE BASE
+       compare answer FILE BASE
        compare list FILE
        compare hostile --count N [--seed S]
 kinds: lines equates data pseudos mutate many built short limits hostile";
@@ -23,6 +24,7 @@ fn main() -> ExitCode {
     let done = match words.split_first() {
         Some((&"run", options)) => run_all(options),
         Some((&"one", [file, base])) => one(file, base),
+        Some((&"answer", [file, base])) => answer(file, base),
         Some((&"list", [file])) => write_list(file),
         Some((&"hostile", options)) => hostile(options),
         _ => Err(invalid(USAGE)),
@@ -123,11 +125,18 @@ fn run_all(words: &[&str]) -> io::Result<ExitCode> {
     })
 }
 
-/// Prints every answer for one file, with all buffers of full size.
-fn one(file: &str, base: &str) -> io::Result<ExitCode> {
-    let text = fs::read(file)?;
+/// A file's text, and a decimal base for it; the reference can be asked then.
+fn read(file: &str, base: &str) -> io::Result<(Vec<u8>, u32)> {
+    let text =
+        fs::read(file).map_err(|error| io::Error::new(error.kind(), format!("{file}: {error}")))?;
     let base = u32::try_from(number(base)?).map_err(|_| invalid("a base has 32 bits"))?;
     differential::asking::silence_panics();
+    Ok((text, base))
+}
+
+/// Prints every answer for one file, with all buffers of full size.
+fn one(file: &str, base: &str) -> io::Result<ExitCode> {
+    let (text, base) = read(file, base)?;
     let (answer, trace) = model::assemble(&text, base, Lent::FULL);
     println!(
         "model: number {} at {}, {:?}",
@@ -183,6 +192,26 @@ fn one_of_ours(text: &[u8], base: u32, answer: &model::Answer) -> bool {
 fn one_of_ours(_: &[u8], _: u32, _: &model::Answer) -> bool {
     println!("ours: not linked");
     true
+}
+
+/// Prints the model's answer for one file, with all buffers of full size, once
+/// it is held to the reference: nothing is printed of an answer that differs.
+fn answer(file: &str, base: &str) -> io::Result<ExitCode> {
+    let (text, base) = read(file, base)?;
+    let (answer, trace) = model::assemble(&text, base, Lent::FULL);
+    let out = match reference::hold(&text, base, &answer, &trace, true) {
+        reference::Held::Same => None,
+        reference::Held::Out(reason) => Some(reason),
+        reference::Held::Differs(difference) => {
+            eprintln!("model and reference differ: {difference}");
+            return Ok(ExitCode::FAILURE);
+        }
+    };
+    print!("{}", shown::answer(&answer));
+    if let Some(reason) = out {
+        println!("outside the domain: {reason}");
+    }
+    Ok(ExitCode::SUCCESS)
 }
 
 fn write_list(file: &str) -> io::Result<ExitCode> {

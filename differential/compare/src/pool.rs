@@ -18,7 +18,7 @@ pub fn built() -> &'static [(String, u32)] {
     static BUILT: OnceLock<Vec<(String, u32)>> = OnceLock::new();
     BUILT.get_or_init(|| {
         let mut sources = sources::built(&sources::BUILDERS);
-        sources.extend(sources::built(&sources::WHOLE));
+        sources.extend(sources::built(&sources::FURTHER));
         sources.extend(sources::built(&[sources::BEYOND]));
         sources.extend(sources::long_chains().into_iter().map(|text| (text, 0)));
         sources

@@ -1,5 +1,6 @@
 //! The model against what the papers say outright: document 01's twelve cases,
-//! and the smallest inputs of docs/DECISIONS.md.
+//! the smallest inputs of docs/DECISIONS.md, and lines for each refusal
+//! from 2 to 20.
 
 use compare::model::{assemble, Answer, Lent};
 
@@ -192,6 +193,15 @@ fn what_is_lent() {
         .number
     };
     assert_eq!([room(0), room(16)], [45, 5]);
+}
+
+/// The lines that are built for a refusal get it.
+#[test]
+fn built_for_a_refusal() {
+    for (number, lines) in differential::sources::ERRORS {
+        let given = full(&lines.replace('@', "1"));
+        assert_eq!(u32::from(given.number), number, "{lines}");
+    }
 }
 
 /// An alignment never goes back, whatever the place and the number.
