@@ -1,5 +1,5 @@
 -- Whatever answers as the programs would that document 01 excludes by demand 3, "How much the layout promises", 3, does not meet it; nor does
--- a label one word off, or an li whose words are blank.
+-- a label or a label word one word off, an li whose words are blank, or an equate whose name another equate or a label has.
 use Prim.Native.Nat.{ℕ, zero, suc, _^_, _<_}
 use mathlib.Core.Path.{_≡_, refl, sym, _∙_, ap, subst}
 use mathlib.Core.List.{List, [], _∷_}
@@ -15,16 +15,18 @@ use Rattle.encoder.specs.Run.{Registers, done, failed, Leaves}
 use Rattle.layout.specs.declared.state.Section.{Section}
 use Rattle.layout.specs.declared.state.Section.the-variants as section
 use Rattle.layout.specs.declared.pseudo.Pseudo.the-variants.{Li}
+use Rattle.layout.specs.Bytes.{le}
 use Rattle.layout.specs.Pieces.{piece, lines, linePieces}
 use Rattle.layout.specs.Limits.{roomOf}
-use Rattle.layout.specs.State.{Label, Equate, ItemLine, Own, State, start}
+use Rattle.layout.specs.State.{Label, Equate, ItemLine, LabelWord, Own, State, start}
 use Rattle.layout.specs.Stage.{lineStage}
 use Rattle.layout.specs.Addresses.{LabelAt}
 use Rattle.layout.specs.Layouts.{EquateAt, ItemAt, Layout, Answer}
 use Rattle.layout.specs.Terms.{Term, termsFrom, termsOf, signedSum, namesIn, isUsed}
 use Rattle.layout.specs.Chains.{Among, first, nameOf, Reaches, uses, onto, Unresolved, undefined, circular, NamesFirst}
 use Rattle.layout.specs.Held.{heldLayout}
-use Rattle.layout.specs.Demands.{recordedValue, recordedAddress, finalValue, largest, sumOfRounds, liValue, Loads, Holds, Demanded}
+use Rattle.layout.specs.Demands.{recordedValue, recordedAddress, finalValue, largest, sumOfRounds, LabelWordHolds, liValue, Loads, Holds, Demanded}
+use Rattle.numbers.proofs.Bools.{none-some}
 use Rattle.layout.proofs.ResultLaws.{value-same, some-same}
 use Rattle.layout.proofs.Computing.{computing}
 use Rattle.layout.proofs.TwelveCases.{full}
@@ -52,9 +54,13 @@ claim-holds t σ l x r c d =
 abbrev stateWith : List Label → List Equate → Own → State
 stateWith ls es own = record { labels = ls; rest = record { equates = es; own = own } }
 
-abbrev ownWith : Section → List ItemLine → ℕ → List ℕ → Own
-ownWith s items words bytes =
-    record { section = s; items = record { list = items; words = words }; stored = record { bytes = bytes; labelWords = [] }; bss = 0 }
+abbrev ownWith : Section → List ItemLine → ℕ → List ℕ → List LabelWord → Own
+ownWith s items words bytes labelWords =
+    record { section = s; items = record { list = items; words = words }; stored = record { bytes = bytes; labelWords = labelWords }; bss = 0 }
+
+-- nothing but equates, and labels
+abbrev noneOwn : Own
+noneOwn = ownWith section.Text [] 0 [] []
 
 abbrev layoutWith : List ℕ → List ℕ → List LabelAt → List EquateAt → List ItemAt → ℕ → Layout
 layoutWith words bytes labels equates items n =
@@ -87,7 +93,7 @@ abbrev a : Equate
 a = equate 0 (text "a") 4 (text "b+1") 0
 
 abbrev twoState : State
-twoState = stateWith [] (a ∷ equate 8 (text "b") 12 (text "5") 1 ∷ []) (ownWith section.Text [] 0 [])
+twoState = stateWith [] (a ∷ equate 8 (text "b") 12 (text "5") 1 ∷ []) noneOwn
 
 two-says : Says two twoState
 unfolding computing
@@ -140,7 +146,7 @@ lettered = text ".data\nt: .byte 7"
 abbrev letteredState : State
 letteredState =
     stateWith (record { name = piece 6 (text "t"); place = record { section = section.Data; offset = 0 }; line = 1 } ∷ []) []
-    (ownWith section.Data [] 0 (7 ∷ []))
+    (ownWith section.Data [] 0 (7 ∷ []) [])
 
 lettered-says : Says lettered letteredState
 unfolding computing
@@ -156,13 +162,44 @@ label-off x c d =
     some-same (claim-holds lettered letteredState (letteredLayout 0x1004) x lettered-says c d .labels (text "t")) in
     omega arith
 
+-- ---- `t: .word t` in data: a label word one word off
+
+abbrev pointing : List ℕ
+pointing = text ".data\nt: .word t"
+
+abbrev labelWord : LabelWord
+labelWord = record { at = 0; name = text "t"; line = 1 }
+
+abbrev pointingState : State
+pointingState =
+    stateWith (record { name = piece 6 (text "t"); place = record { section = section.Data; offset = 0 }; line = 1 } ∷ []) []
+    (ownWith section.Data [] 0 (0 ∷ 0 ∷ 0 ∷ 0 ∷ []) (labelWord ∷ []))
+
+pointing-says : Says pointing pointingState
+unfolding computing
+pointing-says = refl
+
+abbrev pointingLayout : ℕ → Layout
+pointingLayout n = layoutWith [] (le 4 n) (record { name = piece 6 (text "t"); address = 0x1000; line = 1 } ∷ []) [] [] 0
+
+pub label-word-off : (x : Answer) → Claims pointing (pointingLayout 0x1004) x → Demanded pointing 0 full x → ⊥
+unfolding computing recordedAddress
+label-word-off x c d = by (claim-holds pointing pointingState (pointingLayout 0x1004) x pointing-says c d .labelWords labelWord first)
+  where
+    by : LabelWordHolds (pointingLayout 0x1004) labelWord → ⊥
+    by h =
+        let e : _≡_ {A = ℕ} 0x1000 (h .address) = some-same (h .known) in
+        let w : le 4 0x1004 ≡ le 4 0x1000 = h .stands ∙ ap (le 4) (sym e) in
+        let y : _≡_ {A = ℕ} 4 0 = cc in
+        omega arith
+
 -- ---- `li a0, 5`: words that are blank
 
 abbrev loading : List ℕ
 loading = text "li a0, 5"
 
 abbrev loadingState : State
-loadingState = stateWith [] [] (ownWith section.Text (record { offset = 0; line = 0; item = some Li; source = piece 0 loading } ∷ []) 1 [])
+loadingState = stateWith [] [] (ownWith section.Text (record { offset = 0; line = 0; item = some Li; source = piece 0 loading } ∷ []) 1 [] [])
 
 loading-says : Says loading loadingState
 unfolding computing
@@ -202,13 +239,55 @@ words-blank x c d = by (h .items .0 .li refl)
         first-same : {a b c d : List ℕ} → _≡_ {A = List (List ℕ)} (a ∷ b ∷ []) (c ∷ d ∷ []) → a ≡ c
         first-same e = cc
 
--- ---- `a = 5`: "one that says 17 before the first round"
+-- ---- `a = 5`: a name that another equate, or a label, has too
 
 abbrev five : Equate
 five = equate 0 (text "a") 4 (text "5") 0
 
+-- of an equate at a place of the text: what is recorded of it
+abbrev found : ℕ → ℕ → ℕ → EquateAt
+found n line v = record { name = piece n (text "a"); line = line; value = pos v; round = 1 }
+
+abbrev twice : List ℕ
+twice = text "a = 5\na = 6"
+
+abbrev twiceState : State
+twiceState = stateWith [] (five ∷ equate 6 (text "a") 10 (text "6") 1 ∷ []) noneOwn
+
+twice-says : Says twice twiceState
+unfolding computing
+twice-says = refl
+
+abbrev twiceLayout : Layout
+twiceLayout = layoutWith [] [] [] (found 0 0 5 ∷ found 6 1 6 ∷ []) [] 2
+
+pub name-shared : (x : Answer) → Claims twice twiceLayout x → Demanded twice 0 full x → ⊥
+unfolding computing recordedValue
+name-shared x c d = none-some (sym (claim-holds twice twiceState twiceLayout x twice-says c d .equates .0 .unshared))
+
+abbrev both : List ℕ
+both = text "a:\na = 5"
+
+abbrev bothState : State
+bothState =
+    stateWith (record { name = piece 0 (text "a"); place = record { section = section.Text; offset = 0 }; line = 0 } ∷ [])
+    (equate 3 (text "a") 7 (text "5") 1 ∷ []) noneOwn
+
+both-says : Says both bothState
+unfolding computing
+both-says = refl
+
+abbrev bothLayout : Layout
+bothLayout = layoutWith [] [] (record { name = piece 0 (text "a"); address = 0; line = 0 } ∷ []) (found 3 1 5 ∷ []) [] 1
+
+pub name-of-label : (x : Answer) → Claims both bothLayout x → Demanded both 0 full x → ⊥
+unfolding computing recordedAddress
+name-of-label x c d = none-some (sym (claim-holds both bothState bothLayout x both-says c d .equates .0 .noLabel))
+
+-- ---- `a = 5`: "one that says 17 before the first round"
+
 abbrev fiveState : State
-fiveState = stateWith [] (five ∷ []) (ownWith section.Text [] 0 [])
+fiveState = stateWith [] (five ∷ []) noneOwn
 
 five-says : Says (text "a = 5") fiveState
 unfolding computing
