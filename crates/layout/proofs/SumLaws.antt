@@ -198,6 +198,15 @@ no-terms joint (number v ∷ ts) e = refl
 no-terms joint (name m ∷ ts) e = refl
 no-terms joint (unreadable ∷ ts) e = refl
 
+-- a sum that comes to a value has read every token
+pub valued-readable : (look : List ℕ → Option ℤ) (at sum : ℤ) (w : Wanted) (ts : List Token) (z : ℤ)
+    → sumFrom look at sum w ts ≡ value (some z) → anyUnreadable ts ≡ false
+valued-readable look at sum w ts z e = by (anyUnreadable ts) refl
+  where
+    by : (c : Bool) → anyUnreadable ts ≡ c → c ≡ false
+    by true q = absurd (none-some (sym (no-terms w ts q) ∙ (rw e at (says-sum look at sum w ts)) .are))
+    by false q = refl
+
 -- an expression's value is its signed sum, and every name that it uses has one; it waits for one that has none; it is refused as malformed or by 24
 pub evaluated-says : (look : List ℕ → Option ℤ) (at : ℤ) (s : List ℕ)
     → SaidOf look at (pos 0) (term positive positive) (tokens s) (evaluate look at s)

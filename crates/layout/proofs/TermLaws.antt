@@ -22,6 +22,7 @@ use Rattle.layout.specs.Expressions.{tokens, anyUnreadable, addTerm, onN
 use Rattle.layout.specs.code.Tokens.{tokenOf, spacedIn, tokensFrom, TokenLeads}
 use Rattle.layout.specs.code.Terms.{ownSign, unsigned, IsOperand, TermStands, NoTerm, termValue, AddsTerm, NoJoint, JointStands}
 use Rattle.layout.specs.code.Terms.{isUnknown, operandWaits, termWaits, Extends, Waiting, Evaluates, sumOf, evaluationOf}
+use Rattle.layout.proofs.SumLaws.{valued-readable}
 
 -- ---- signs
 
@@ -354,3 +355,9 @@ module _ (look : List ℕ → Option ℤ) (oneSpace : Bool) (s : List ℕ) (here
 
     pub evaluates-sum : Evaluates look oneSpace s (sumOf oneSpace s here) r → Evaluates look oneSpace s (evaluationOf oneSpace s here) r
     evaluates-sum v = record { answers = v .answers ∙ is-sum look; waiting = waits-as-sum r (v .waiting) }
+
+  -- a value needs no second look at the tokens
+  pub evaluates-value : (z : ℤ) → Evaluates look oneSpace s (sumOf oneSpace s here) (Value z) → Evaluates look oneSpace s (evaluationOf oneSpace s here) (Value z)
+  unfolding tokensFrom
+  evaluates-value z v =
+      evaluates-sum (Value z) (valued-readable look here (pos 0) (term positive positive) (tokens (spacedIn oneSpace s)) z (sym (v .answers))) v

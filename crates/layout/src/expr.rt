@@ -229,7 +229,7 @@ fn operator_at(s: &[u8], at: usize, one_space: bool) -> Joint
     }
 }
 
-// An expression of which every token is readable.
+// The sum of an expression's terms, as far as it goes.
 fn sum_terms(
     text: &[u8],
     labels: &[u8],
@@ -290,7 +290,8 @@ fn sum_terms(
     }
 }
 
-// What an expression comes to against the labels and the equates that are found.
+// What an expression comes to against the labels and the equates that are found. Unreadable tokens come first; where the sum has a value, it has
+// read every token, and there is none to look for.
 pub fn eval_expr(
     text: &[u8],
     labels: &[u8],
@@ -307,10 +308,7 @@ pub fn eval_expr(
     ensures { λ r. ⌜ NamesKnown text labels «label_index» «label_count» equates «equate_index» «equate_count»
         (λ names. Evaluates (lookIn names) «one_space» (now (s .entry)) (evaluationOf «one_space» (now (s .entry)) (pos here)) r) ⌝ }
 {
-    if any_unreadable(s, one_space) {
-        return Evaluated::Refused(16);
-    }
-    sum_terms(
+    let answer = sum_terms(
         text,
         labels,
         label_index,
@@ -321,5 +319,12 @@ pub fn eval_expr(
         s,
         one_space,
         here,
-    )
+    );
+    if let Evaluated::Value(_) = answer {
+        return answer;
+    }
+    if any_unreadable(s, one_space) {
+        return Evaluated::Refused(16);
+    }
+    answer
 }
