@@ -25,9 +25,9 @@ use numbers::text::first_is;
 use numbers::text::put_one_spaced;
 use numbers::text::span_bytes;
 ghost use mathlib.Core.Path.{_≡_};
-ghost use mathlib.Core.List.{List, [], _∷_};
+ghost use mathlib.Core.List.{List};
 ghost use mathlib.Core.Option.{none};
-ghost use Prim.Native.Nat.{ℕ, _≤_};
+ghost use Prim.Native.Nat.{ℕ, _≤_, _<_, _+_};
 ghost use lib.IntN.{ℤ};
 ghost use lib.ListN.{length, drop};
 ghost use Rattle.numbers.specs.declared.registers.Register.{Register};
@@ -36,7 +36,7 @@ ghost use Rattle.numbers.specs.Text.{isSpace, oneSpaced};
 ghost use Rattle.numbers.specs.Registers.{registerOf};
 ghost use Rattle.numbers.specs.Numbers.{immOf};
 ghost use Rattle.numbers.specs.code.Meanings.{registerNumber};
-ghost use Rattle.encoder.specs.declared.instruction.Instruction.the-variants.{Addi};
+ghost use Rattle.encoder.specs.declared.instruction.Instruction.the-variants.{Addi, Lui, Lbu, Lw, Sw, Beq, Jal, Sub};
 ghost use Rattle.encoder.specs.Split.{loadPair};
 ghost use Rattle.layout.specs.declared.pseudo.Pseudo.the-variants as pseudo;
 ghost use Rattle.layout.specs.Bytes.{countBefore};
@@ -47,8 +47,8 @@ ghost use Rattle.layout.specs.code.Steps.{Some};
 ghost use Rattle.layout.specs.code.Tables.{LabelsIndexed};
 ghost use Rattle.layout.specs.code.Placed.{WherePlaced, addressOf};
 ghost use Rattle.layout.specs.code.Names.{EquateTable, NamesReady, NamesKnown};
-ghost use Rattle.layout.specs.code.Expands.{spacedOperands, onlyThen, twoThen, loadThen, targetThen, immThen, Loads, expandedOf};
-ghost use Rattle.layout.specs.code.Expands.{WhereKnown, ExpandsAlone, ExpandsByLabels, ExpandsByEquates, expansionIn};
+ghost use Rattle.layout.specs.code.Expands.{spacedOperands, onlyThen, twoThen, loadThen, targetThen, immThen, longest, ecallsOf, withSlot, withSlots, expandedOf};
+ghost use Rattle.layout.specs.code.Expands.{WhereKnown, OfRegister, OfLabel, ExpandsAlone, ExpandsByLabels, ExpandsByEquates, expansionIn};
 
 // The longest expansion, print_str's.
 pub const LONGEST: usize = 11;
@@ -65,17 +65,21 @@ pub struct Expansion {
 }
 
 // Slots begin as ecalls, so that an ecall in an expansion needs no store.
-const ECALL: Slot = Slot {
-    inst: Instruction::Ecall,
-};
+fn ecalls(count: Count) -> Expansion
+    ensures { λ r. ⌜ r ≡ ecallsOf count ⌝ }
+{
+    Expansion {
+        slots: [Slot {
+            inst: Instruction::Ecall,
+        }; LONGEST],
+        count,
+    }
+}
 
 fn refused(number: u8) -> Expansion
     ensures { λ r. ⌜ expandedOf r ≡ refused number ⌝ }
 {
-    Expansion {
-        slots: [ECALL; LONGEST],
-        count: Count::Stop(number),
-    }
+    ecalls(Count::Stop(number))
 }
 
 // What follows a source's first word: its operands.
@@ -274,63 +278,86 @@ fn li_number(
     }
 }
 
-fn addi(rd: Register, rs1: Register, imm: i32) -> Slot
-    ensures { λ r. ⌜ r ≡ record { inst = Addi rd rs1 imm } ⌝ }
+// The expansion with another instruction in its kth slot.
+fn with(mut e: Expansion, k: usize, inst: Instruction) -> Expansion
+    requires { ⌜ k < longest ⌝ }
+    ensures { λ r. ⌜ r ≡ withSlot e k inst ⌝ }
 {
-    Slot {
-        inst: Instruction::Addi { rd, rs1, imm },
-    }
+    e.slots[k] = Slot { inst };
+    e
 }
 
-// The lui of b's upper part and the addi of its lower part.
-struct Pair {
-    upper: Slot,
-    lower: Slot,
+// The same for each instruction that an expansion has.
+fn addi(e: Expansion, k: usize, rd: Register, rs1: Register, imm: i32) -> Expansion
+    requires { ⌜ k < longest ⌝ }
+    ensures { λ r. ⌜ r ≡ withSlot e k (Addi rd rs1 imm) ⌝ }
+{
+    with(e, k, Instruction::Addi { rd, rs1, imm })
 }
 
-fn load_pair(rd: Register, b: u32) -> Pair
-    ensures { λ r. ⌜ Loads rd b r ⌝ }
+fn lui(e: Expansion, k: usize, rd: Register, imm: i32) -> Expansion
+    requires { ⌜ k < longest ⌝ }
+    ensures { λ r. ⌜ r ≡ withSlot e k (Lui rd imm) ⌝ }
 {
-    Pair {
-        upper: Slot {
-            inst: Instruction::Lui {
-                rd,
-                imm: signed_of(upper_part(b)),
-            },
-        },
-        lower: Slot {
-            inst: Instruction::Addi {
-                rd,
-                rs1: rd,
-                imm: signed_of(lower_part(b)),
-            },
-        },
-    }
+    with(e, k, Instruction::Lui { rd, imm })
+}
+
+fn lbu(e: Expansion, k: usize, rd: Register, rs1: Register, imm: i32) -> Expansion
+    requires { ⌜ k < longest ⌝ }
+    ensures { λ r. ⌜ r ≡ withSlot e k (Lbu rd rs1 imm) ⌝ }
+{
+    with(e, k, Instruction::Lbu { rd, rs1, imm })
+}
+
+fn lw(e: Expansion, k: usize, rd: Register, rs1: Register, imm: i32) -> Expansion
+    requires { ⌜ k < longest ⌝ }
+    ensures { λ r. ⌜ r ≡ withSlot e k (Lw rd rs1 imm) ⌝ }
+{
+    with(e, k, Instruction::Lw { rd, rs1, imm })
+}
+
+fn sw(e: Expansion, k: usize, rs2: Register, rs1: Register, imm: i32) -> Expansion
+    requires { ⌜ k < longest ⌝ }
+    ensures { λ r. ⌜ r ≡ withSlot e k (Sw rs2 rs1 imm) ⌝ }
+{
+    with(e, k, Instruction::Sw { rs2, rs1, imm })
+}
+
+fn beq(e: Expansion, k: usize, rs1: Register, rs2: Register, imm: i32) -> Expansion
+    requires { ⌜ k < longest ⌝ }
+    ensures { λ r. ⌜ r ≡ withSlot e k (Beq rs1 rs2 imm) ⌝ }
+{
+    with(e, k, Instruction::Beq { rs1, rs2, imm })
+}
+
+fn jal(e: Expansion, k: usize, rd: Register, imm: i32) -> Expansion
+    requires { ⌜ k < longest ⌝ }
+    ensures { λ r. ⌜ r ≡ withSlot e k (Jal rd imm) ⌝ }
+{
+    with(e, k, Instruction::Jal { rd, imm })
+}
+
+fn sub(e: Expansion, k: usize, rd: Register, rs1: Register, rs2: Register) -> Expansion
+    requires { ⌜ k < longest ⌝ }
+    ensures { λ r. ⌜ r ≡ withSlot e k (Sub rd rs1 rs2) ⌝ }
+{
+    with(e, k, Instruction::Sub { rd, rs1, rs2 })
+}
+
+// The lui of b's upper part in the kth slot and the addi of its lower part in the next.
+fn load_pair(e: Expansion, k: usize, rd: Register, b: u32) -> Expansion
+    requires { ⌜ k + 1 < longest ⌝ }
+    ensures { λ r. ⌜ r ≡ withSlots e k (loadPair rd b) ⌝ }
+{
+    let upper = lui(e, k, rd, signed_of(upper_part(b)));
+    addi(upper, k + 1, rd, rd, signed_of(lower_part(b)))
 }
 
 // The pair alone: what leaves b in rd.
 fn load_word(rd: Register, b: u32) -> Expansion
     ensures { λ r. ⌜ expandedOf r ≡ value (loadPair rd b) ⌝ }
 {
-    let pair = load_pair(rd, b);
-    let upper = pair.upper;
-    let lower = pair.lower;
-    let mut slots = [upper; LONGEST];
-    slots[1] = lower;
-    Expansion {
-        slots,
-        count: Count::Now(2),
-    }
-}
-
-// One instruction alone.
-fn one(slot: Slot) -> Expansion
-    ensures { λ r. ⌜ expandedOf r ≡ value (slot .inst ∷ []) ⌝ }
-{
-    Expansion {
-        slots: [slot; LONGEST],
-        count: Count::Now(1),
-    }
+    load_pair(ecalls(Count::Now(2)), 0, rd, b)
 }
 
 // A small number by an addi, another by the pair.
@@ -338,7 +365,7 @@ fn load_number(rd: Register, v: i32) -> Expansion
     ensures { λ r. ⌜ expandedOf r ≡ liLoad rd v ⌝ }
 {
     if in_signed12(v) {
-        return one(addi(rd, Register::ZERO, v));
+        return addi(ecalls(Count::Now(1)), 0, rd, Register::ZERO, v);
     }
     load_word(rd, bits_of_i32(v))
 }
@@ -400,66 +427,81 @@ fn parse_la(
 }
 
 // push rs
+fn push(rs: Register) -> Expansion
+    ensures { λ r. ⌜ OfRegister pseudo.Push rs r ⌝ }
+{
+    let sp = Register::SP;
+    let mut e = ecalls(Count::Now(2));
+    e = addi(e, 0, sp, sp, -4);
+    sw(e, 1, rs, sp, 0)
+}
+
 fn parse_push(ops: &[u8]) -> Expansion
     ensures { λ r. ⌜ ExpandsAlone pseudo.Push ops r ⌝ }
 {
     let Reg::Valid(rs) = only_register(ops) else {
         return refused(18);
     };
-    let mut slots = [ECALL; LONGEST];
-    slots[0] = addi(Register::SP, Register::SP, -4);
-    slots[1] = Slot {
-        inst: Instruction::Sw {
-            rs2: rs,
-            rs1: Register::SP,
-            imm: 0,
-        },
-    };
-    Expansion {
-        slots,
-        count: Count::Now(2),
-    }
+    push(rs)
 }
 
 // pop rd
+fn pop(rd: Register) -> Expansion
+    ensures { λ r. ⌜ OfRegister pseudo.Pop rd r ⌝ }
+{
+    let sp = Register::SP;
+    let mut e = ecalls(Count::Now(2));
+    e = lw(e, 0, rd, sp, 0);
+    addi(e, 1, sp, sp, 4)
+}
+
 fn parse_pop(ops: &[u8]) -> Expansion
     ensures { λ r. ⌜ ExpandsAlone pseudo.Pop ops r ⌝ }
 {
     let Reg::Valid(rd) = only_register(ops) else {
         return refused(18);
     };
-    let mut slots = [ECALL; LONGEST];
-    slots[0] = Slot {
-        inst: Instruction::Lw {
-            rd,
-            rs1: Register::SP,
-            imm: 0,
-        },
-    };
-    slots[1] = addi(Register::SP, Register::SP, 4);
-    Expansion {
-        slots,
-        count: Count::Now(2),
-    }
+    pop(rd)
 }
 
 // print rd: a7 = 1000, a0 = rd, ecall
+fn print(rd: Register) -> Expansion
+    ensures { λ r. ⌜ OfRegister pseudo.Print rd r ⌝ }
+{
+    let mut e = ecalls(Count::Now(3));
+    e = addi(e, 0, Register::A7, Register::ZERO, 1000);
+    addi(e, 1, Register::A0, rd, 0)
+}
+
 fn parse_print(ops: &[u8]) -> Expansion
     ensures { λ r. ⌜ ExpandsAlone pseudo.Print ops r ⌝ }
 {
     let Reg::Valid(rd) = only_register(ops) else {
         return refused(18);
     };
-    let mut slots = [ECALL; LONGEST];
-    slots[0] = addi(Register::A7, Register::ZERO, 1000);
-    slots[1] = addi(Register::A0, rd, 0);
-    Expansion {
-        slots,
-        count: Count::Now(3),
-    }
+    print(rd)
 }
 
-// print_str label: the length is counted up to the byte 0, then written to standard output
+// print_str label, whose address is a: the length is counted up to the byte 0, then written to standard output
+fn print_str(a: u32) -> Expansion
+    ensures { λ r. ⌜ OfLabel pseudo.PrintStr a r ⌝ }
+{
+    let zero = Register::ZERO;
+    let t0 = Register::T0;
+    let a1 = Register::A1;
+    let a2 = Register::A2;
+    let mut e = ecalls(Count::Now(LONGEST));
+    e = load_pair(e, 0, a1, a);
+    e = addi(e, 2, a2, a1, 0);
+    e = lbu(e, 3, t0, a2, 0);
+    e = beq(e, 4, t0, zero, 12);
+    e = addi(e, 5, a2, a2, 1);
+    e = jal(e, 6, zero, -12);
+    e = sub(e, 7, a2, a2, a1);
+    e = addi(e, 8, Register::A0, zero, 1);
+    addi(e, 9, Register::A7, zero, 64)
+}
+
 fn parse_print_str(
     text: &[u8],
     labels: &[u8],
@@ -473,53 +515,22 @@ fn parse_print_str(
 {
     match label_operand(text, labels, index, count, scratch, ops) {
         Target::Refused(number) => refused(number),
-        Target::At(a) => {
-            let pair = load_pair(Register::A1, a);
-            let mut slots = [ECALL; LONGEST];
-            let upper = pair.upper;
-            let lower = pair.lower;
-            slots[0] = upper;
-            slots[1] = lower;
-            slots[2] = addi(Register::A2, Register::A1, 0);
-            slots[3] = Slot {
-                inst: Instruction::Lbu {
-                    rd: Register::T0,
-                    rs1: Register::A2,
-                    imm: 0,
-                },
-            };
-            slots[4] = Slot {
-                inst: Instruction::Beq {
-                    rs1: Register::T0,
-                    rs2: Register::ZERO,
-                    imm: 12,
-                },
-            };
-            slots[5] = addi(Register::A2, Register::A2, 1);
-            slots[6] = Slot {
-                inst: Instruction::Jal {
-                    rd: Register::ZERO,
-                    imm: -12,
-                },
-            };
-            slots[7] = Slot {
-                inst: Instruction::Sub {
-                    rd: Register::A2,
-                    rs1: Register::A2,
-                    rs2: Register::A1,
-                },
-            };
-            slots[8] = addi(Register::A0, Register::ZERO, 1);
-            slots[9] = addi(Register::A7, Register::ZERO, 64);
-            Expansion {
-                slots,
-                count: Count::Now(LONGEST),
-            }
-        }
+        Target::At(a) => print_str(a),
     }
 }
 
 // read label: up to 256 bytes of standard input
+fn read(a: u32) -> Expansion
+    ensures { λ r. ⌜ OfLabel pseudo.Read a r ⌝ }
+{
+    let zero = Register::ZERO;
+    let mut e = ecalls(Count::Now(6));
+    e = addi(e, 0, Register::A0, zero, 0);
+    e = load_pair(e, 1, Register::A1, a);
+    e = addi(e, 3, Register::A2, zero, 256);
+    addi(e, 4, Register::A7, zero, 63)
+}
+
 fn parse_read(
     text: &[u8],
     labels: &[u8],
@@ -533,25 +544,19 @@ fn parse_read(
 {
     match label_operand(text, labels, index, count, scratch, ops) {
         Target::Refused(number) => refused(number),
-        Target::At(a) => {
-            let pair = load_pair(Register::A1, a);
-            let mut slots = [ECALL; LONGEST];
-            let upper = pair.upper;
-            let lower = pair.lower;
-            slots[0] = addi(Register::A0, Register::ZERO, 0);
-            slots[1] = upper;
-            slots[2] = lower;
-            slots[3] = addi(Register::A2, Register::ZERO, 256);
-            slots[4] = addi(Register::A7, Register::ZERO, 63);
-            Expansion {
-                slots,
-                count: Count::Now(6),
-            }
-        }
+        Target::At(a) => read(a),
     }
 }
 
 // read_byte label
+fn read_byte(a: u32) -> Expansion
+    ensures { λ r. ⌜ OfLabel pseudo.ReadByte a r ⌝ }
+{
+    let mut e = ecalls(Count::Now(4));
+    e = addi(e, 0, Register::A7, Register::ZERO, 1010);
+    load_pair(e, 1, Register::A0, a)
+}
+
 fn parse_read_byte(
     text: &[u8],
     labels: &[u8],
@@ -565,47 +570,33 @@ fn parse_read_byte(
 {
     match label_operand(text, labels, index, count, scratch, ops) {
         Target::Refused(number) => refused(number),
-        Target::At(a) => {
-            let pair = load_pair(Register::A0, a);
-            let mut slots = [ECALL; LONGEST];
-            let upper = pair.upper;
-            let lower = pair.lower;
-            slots[0] = addi(Register::A7, Register::ZERO, 1010);
-            slots[1] = upper;
-            slots[2] = lower;
-            Expansion {
-                slots,
-                count: Count::Now(4),
-            }
-        }
+        Target::At(a) => read_byte(a),
     }
 }
 
 // random rd: four bytes into a place on the stack, which is then loaded
+fn random(rd: Register) -> Expansion
+    ensures { λ r. ⌜ OfRegister pseudo.Random rd r ⌝ }
+{
+    let sp = Register::SP;
+    let zero = Register::ZERO;
+    let mut e = ecalls(Count::Now(8));
+    e = addi(e, 0, sp, sp, -4);
+    e = addi(e, 1, Register::A7, zero, 278);
+    e = addi(e, 2, Register::A0, sp, 0);
+    e = addi(e, 3, Register::A1, zero, 4);
+    e = addi(e, 4, Register::A2, zero, 0);
+    e = lw(e, 6, rd, sp, 0);
+    addi(e, 7, sp, sp, 4)
+}
+
 fn parse_random(ops: &[u8]) -> Expansion
     ensures { λ r. ⌜ ExpandsAlone pseudo.Random ops r ⌝ }
 {
     let Reg::Valid(rd) = only_register(ops) else {
         return refused(18);
     };
-    let mut slots = [ECALL; LONGEST];
-    slots[0] = addi(Register::SP, Register::SP, -4);
-    slots[1] = addi(Register::A7, Register::ZERO, 278);
-    slots[2] = addi(Register::A0, Register::SP, 0);
-    slots[3] = addi(Register::A1, Register::ZERO, 4);
-    slots[4] = addi(Register::A2, Register::ZERO, 0);
-    slots[6] = Slot {
-        inst: Instruction::Lw {
-            rd,
-            rs1: Register::SP,
-            imm: 0,
-        },
-    };
-    slots[7] = addi(Register::SP, Register::SP, 4);
-    Expansion {
-        slots,
-        count: Count::Now(8),
-    }
+    random(rd)
 }
 
 // What a pseudo stands for, of the operands in its source.

@@ -1,10 +1,10 @@
 -- Expansions in the code: operands as they are read, an array of instructions with its count, and words put into what is lent.
 use denote.Ref.{now}
-use Prim.Native.Nat.{ℕ, zero, suc, _≤_}
+use Prim.Native.Nat.{ℕ, zero, suc, _+_, _≤_}
 use mathlib.Core.Path.{_≡_}
 use mathlib.Core.List.{List, [], _∷_, _++_}
 use mathlib.Core.Option.{Option}
-use lib.ListN.{length, drop, getD}
+use lib.ListN.{length, drop, getD, set, replicate}
 use lib.IntN.{ℤ}
 use Rattle.numbers.specs.declared.text.Span.{Span}
 use Rattle.numbers.specs.declared.ints.Imm.{Imm}
@@ -12,12 +12,12 @@ use Rattle.numbers.specs.declared.ints.Imm.the-variants as imm
 use Rattle.numbers.specs.declared.registers.Register.{Register}
 use Rattle.numbers.specs.Results.{Result, refused, mapped}
 use Rattle.numbers.specs.Text.{oneSpaced}
+use Rattle.numbers.specs.Registers.{registerOf}
 use Rattle.numbers.specs.Operands.{itemOperands}
 use Rattle.numbers.specs.code.Spans.{spanned}
 use Rattle.encoder.specs.declared.instruction.Instruction.{Instruction}
-use Rattle.encoder.specs.declared.instruction.Instruction.the-variants.{Add, Lui, Addi}
+use Rattle.encoder.specs.declared.instruction.Instruction.the-variants.{Add, Ecall}
 use Rattle.encoder.specs.Table.{x0}
-use Rattle.encoder.specs.Split.{upperPart, lowerPart, signed32}
 use Rattle.layout.specs.declared.state.Count.{Count}
 use Rattle.layout.specs.declared.state.Count.the-variants as count
 use Rattle.layout.specs.declared.pseudo.Pseudo.{Pseudo}
@@ -31,12 +31,11 @@ use Rattle.layout.specs.declared.expansions.Load.the-variants as load
 use Rattle.layout.specs.declared.expansions.Target.{Target}
 use Rattle.layout.specs.declared.expansions.Target.the-variants as target
 use Rattle.layout.specs.declared.expansions.Slot.{Slot}
-use Rattle.layout.specs.declared.expansions.Pair.{Pair}
 use Rattle.layout.specs.declared.expansions.Expansion.{Expansion}
 use Rattle.layout.specs.Pseudos.{pseudoOperands, reservedWords, itemKind}
 use Rattle.layout.specs.Addresses.{labelAddress}
 use Rattle.layout.specs.Rounds.{Known, constant}
-use Rattle.layout.specs.Expansions.{Expanded, expansion}
+use Rattle.layout.specs.Expansions.{Expanded, oneOperand, onRegister, noRegister, onLabel, expansion}
 use Rattle.layout.specs.Layouts.{emission}
 use Rattle.layout.specs.code.Steps.{Agrees}
 use Rattle.layout.specs.code.Stands.{countOf}
@@ -75,14 +74,27 @@ immThen imm.Invalid f = refused 19
 
 -- ---- expansions
 
--- the pair of instructions that leaves b in rd
-pub record Loads (rd : Register) (b : ℕ) (p : Pair) : Type 0 where
-  pub upper : p .upper .inst ≡ Lui rd (signed32 (upperPart b))
-  pub lower : p .lower .inst ≡ Addi rd rd (signed32 (lowerPart b))
+-- the longest expansion, print_str's
+abbrev pub longest : ℕ
+longest = 11
+
+-- all slots have ecalls; another instruction in the kth slot; others in the slots from the kth on
+abbrev slotOf : Instruction → Slot
+slotOf i = record { inst = i }
+
+abbrev pub ecallsOf : Count → Expansion
+ecallsOf c = record { slots = replicate longest (slotOf Ecall); count = c }
+
+abbrev pub withSlot : Expansion → ℕ → Instruction → Expansion
+withSlot e k i = record { slots = set (e .slots) k (slotOf i); count = e .count }
+
+abbrev pub withSlots : Expansion → ℕ → List Instruction → Expansion
+withSlots e k [] = e
+withSlots e k (i ∷ is) = withSlots (withSlot e k i) (k + 1) is
 
 -- the instruction in the kth slot, and those in n slots from the kth on
 abbrev noSlot : Slot
-noSlot = record { inst = Add x0 x0 x0 }
+noSlot = slotOf (Add x0 x0 x0)
 
 abbrev pub slotAt : List Slot → ℕ → Instruction
 slotAt xs k = getD xs k noSlot .inst
@@ -98,6 +110,17 @@ expandedOf e = mapped (slotsFrom (e .slots) 0) (countOf (e .count))
 -- P holds of whatever equates these are
 abbrev pub WhereKnown : OverCall → OverCall → OverCall → ℕ → (List Known → Type 0) → Type 0
 WhereKnown t e x m P = (ks : List Known) → EquateTable (now (t .entry)) (now (e .entry)) (now (x .entry)) m ks → P ks
+
+-- the answer is the expansion of whatever operands are this register alone, or the label of this address alone
+abbrev pub OfRegister : Pseudo → Register → Expansion → Type 0
+OfRegister p rd r =
+    (const : List ℕ → Option ℤ) (label : List ℕ → Option ℕ) (ops : List (List ℕ))
+    → ((f : Register → Expanded) → f rd ≡ oneOperand ops (λ a. onRegister (registerOf a) f)) → expandedOf r ≡ expansion const label p ops
+
+abbrev pub OfLabel : Pseudo → ℕ → Expansion → Type 0
+OfLabel p n r =
+    (const : List ℕ → Option ℤ) (label : List ℕ → Option ℕ) (ops : List (List ℕ))
+    → ((f : ℕ → Expanded) → f n ≡ oneOperand ops (λ a. noRegister (registerOf a) (onLabel (label a) f))) → expandedOf r ≡ expansion const label p ops
 
 -- the answer is the expansion of the operands in a text: by whatever names, by the labels or by the equates that are lent
 abbrev pub ExpandsAlone : Pseudo → OverCall → Expansion → Type 0
@@ -122,10 +145,6 @@ abbrev pub emissionIn : Scope → Option Pseudo → List ℕ → Result ℕ (Lis
 emissionIn s item x = emission (constant (s .known)) (labelAddress (s .base) (s .state)) item x
 
 -- ---- words
-
--- the longest expansion, print_str's
-abbrev pub longest : ℕ
-longest = 11
 
 -- so many instructions have slots, and there is room for their words
 abbrev pub CountFits : ℕ → Count → Type 0

@@ -9,7 +9,7 @@ returns : tie.Need-returns
 returns c =
     let s = c .before .before .before .before in
     let z = toZ-ofZ (s .fits .v) in
-    c .one .ensures ∙ rw (c .before .addi .ensures, z, rw z at (sym (c .before .before .before .in-signed12 .ensures) ∙ c .before .before .if1 .taken)) refl
+    rw (c .addi .ensures, c .before .ecalls .ensures, z, rw z at (sym (c .before .before .before .in-signed12 .ensures) ∙ c .before .before .if1 .taken)) refl
 
 returns-2 : tie.Need-returns-2
 returns-2 c =
@@ -22,8 +22,8 @@ load-number-spec =
     tie.close
     (tie.spec
     (λ c κs. search needs)  -- in-signed12-requires
+    (λ c κs. search needs)  -- ecalls-requires
     (λ c κs. search needs)  -- addi-requires
-    (λ c κs. search needs)  -- one-requires
     returns
     (λ c κs. search needs)  -- bits-of-i32-requires
     (λ c κs. search needs)  -- load-word-requires

@@ -1,4 +1,4 @@
--- `expansions::parse_pop`: its two instructions, of the only register.
+-- `expansions::parse_pop`: the only register, or 18.
 use mathlib.Core.Path.{_∙_}
 use Rattle.layout.specs.Expansions.{expansion}
 use Rattle.layout.proofs.ExpansionLaws.{register-none, register-some}
@@ -12,10 +12,9 @@ returns c =
     λ const label. c .refused .ensures ∙ register-none _ _ _ (c .before .before .before .only-register .ensures _) (c .before .enum-told .given .1)
 
 returns-2 : tie.Need-returns-2
-unfolding expansion
 returns-2 c =
     let found = c .before .before in
-    λ const label. rw (c .addi .ensures) (register-some _ _ _ (found .before .before .only-register .ensures _) _ (found .rd .given .1))
+    λ const label. c .pop .ensures const label _ (λ f. register-some _ f _ (found .before .before .only-register .ensures f) _ (found .rd .given .1))
 
 pub parse-pop-spec : {M : Type 1} → statement M
 parse-pop-spec =
@@ -26,7 +25,5 @@ parse-pop-spec =
     (λ c. search needs)  -- enum-told
     (λ c κs. search needs)  -- refused-requires
     returns
-    (λ c. search needs)  -- array-set-from-slots
-    (λ c κs. search needs)  -- addi-requires
-    (λ c. search needs)  -- array-set-from-slots-2
+    (λ c κs. search needs)  -- pop-requires
     returns-2)

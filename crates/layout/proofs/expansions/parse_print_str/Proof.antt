@@ -1,4 +1,4 @@
--- `expansions::parse_print_str`: its eleven instructions, the label's address among them.
+-- `expansions::parse_print_str`: the label's address, or 18 or 20.
 use mathlib.Core.Path.{_∙_}
 use Rattle.layout.specs.Expansions.{expansion}
 use Rattle.layout.proofs.ExpansionLaws.{target-refused, target-at}
@@ -13,13 +13,10 @@ returns c =
     ∙ target-refused _ _ _ (c .before .before .before .before .before .before .label-operand .ensures base σ placed _) _ (c .before .before .number .given .1)
 
 returns-2 : tie.Need-returns-2
-unfolding expansion
 returns-2 c =
-    let pair = c .before .before .before .before .before .before .load-pair .ensures in
-    let found = c .before .before .before .before .before .before .before .before in
-    λ base σ placed const. rw (c .addi4 .ensures, c .before .addi3 .ensures, c .before .before .addi2 .ensures, c .before .before .before .addi .ensures)
-    (rw (pair .upper, pair .lower)
-    (target-at _ _ _ (found .before .before .before .before .label-operand .ensures base σ placed _) _ (found .a .given .1)))
+    let found = c .before .before in
+    λ base σ placed const. c .print-str .ensures const _ _
+    (λ f. target-at _ f _ (found .before .before .before .before .label-operand .ensures base σ placed f) _ (found .a .given .1))
 
 pub parse-print-str-spec : {M : Type 1} → statement M
 parse-print-str-spec =
@@ -29,21 +26,7 @@ parse-print-str-spec =
     (λ c. search needs)  -- enum-known-number
     (λ c κs. search needs)  -- refused-requires
     (λ c. search needs)  -- enum-known-a
-    (λ c κs. search needs)  -- load-pair-requires
-    (λ c. search needs)  -- array-set-from-slots
-    (λ c. search needs)  -- array-set-from-slots-2
-    (λ c κs. search needs)  -- addi-requires
-    (λ c. search needs)  -- array-set-from-slots-3
-    (λ c. search needs)  -- array-set-from-slots-4
-    (λ c. search needs)  -- array-set-from-slots-5
-    (λ c κs. search needs)  -- addi-requires-2
-    (λ c. search needs)  -- array-set-from-slots-6
-    (λ c. search needs)  -- array-set-from-slots-7
-    (λ c. search needs)  -- array-set-from-slots-8
-    (λ c κs. search needs)  -- addi-requires-3
-    (λ c. search needs)  -- array-set-from-slots-9
-    (λ c κs. search needs)  -- addi-requires-4
-    (λ c. search needs)  -- array-set-from-slots-10
+    (λ c κs. search needs)  -- print-str-requires
     (λ c. search needs)  -- same-length
     returns
     (λ c. search needs)  -- same-length-2

@@ -1,4 +1,4 @@
--- `expansions::parse_random`: its eight instructions, of the only register.
+-- `expansions::parse_random`: the only register, or 18.
 use mathlib.Core.Path.{_∙_}
 use Rattle.layout.specs.Expansions.{expansion}
 use Rattle.layout.proofs.ExpansionLaws.{register-none, register-some}
@@ -12,10 +12,9 @@ returns c =
     λ const label. c .refused .ensures ∙ register-none _ _ _ (c .before .before .before .only-register .ensures _) (c .before .enum-told .given .1)
 
 returns-2 : tie.Need-returns-2
-unfolding expansion
 returns-2 c =
-    let found = c .before .before .before .before .before .before .before in
-    λ const label. rw (c .addi6 .ensures, c .before .addi5 .ensures, c .before .before .addi4 .ensures, c .before .before .before .addi3 .ensures, c .before .before .before .before .addi2 .ensures, c .before .before .before .before .before .addi .ensures) (register-some _ _ _ (found .before .before .only-register .ensures _) _ (found .rd .given .1))
+    let found = c .before .before in
+    λ const label. c .random .ensures const label _ (λ f. register-some _ f _ (found .before .before .only-register .ensures f) _ (found .rd .given .1))
 
 pub parse-random-spec : {M : Type 1} → statement M
 parse-random-spec =
@@ -26,17 +25,5 @@ parse-random-spec =
     (λ c. search needs)  -- enum-told
     (λ c κs. search needs)  -- refused-requires
     returns
-    (λ c κs. search needs)  -- addi-requires
-    (λ c. search needs)  -- array-set-from-slots
-    (λ c κs. search needs)  -- addi-requires-2
-    (λ c. search needs)  -- array-set-from-slots-2
-    (λ c κs. search needs)  -- addi-requires-3
-    (λ c. search needs)  -- array-set-from-slots-3
-    (λ c κs. search needs)  -- addi-requires-4
-    (λ c. search needs)  -- array-set-from-slots-4
-    (λ c κs. search needs)  -- addi-requires-5
-    (λ c. search needs)  -- array-set-from-slots-5
-    (λ c. search needs)  -- array-set-from-slots-6
-    (λ c κs. search needs)  -- addi-requires-6
-    (λ c. search needs)  -- array-set-from-slots-7
+    (λ c κs. search needs)  -- random-requires
     returns-2)

@@ -1,0 +1,18 @@
+-- `expansions::pop`: its two instructions.
+use Rattle.layout.specs.Expansions.{expansion}
+use borrow.Author.Needs.{needs}
+use Rattle.layout.proofs.expansions.pop.Statement.{statement}
+use Rattle.layout.proofs.expansions.pop.Tie as tie
+
+returns : tie.Need-returns
+unfolding expansion
+returns c = λ const label ops only. rw (c .addi .ensures, c .before .lw .ensures, c .before .before .ecalls .ensures) (only _)
+
+pub pop-spec : {M : Type 1} → statement M
+pop-spec =
+    tie.close
+    (tie.spec
+    (λ c κs. search needs)  -- ecalls-requires
+    (λ c κs. search needs)  -- lw-requires
+    (λ c κs. search needs)  -- addi-requires
+    returns)

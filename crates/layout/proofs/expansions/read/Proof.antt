@@ -1,0 +1,28 @@
+-- `expansions::read`: its six instructions.
+use Rattle.layout.specs.Expansions.{expansion}
+use borrow.Author.Needs.{needs}
+use Rattle.layout.proofs.expansions.read.Statement.{statement}
+use Rattle.layout.proofs.expansions.read.Tie as tie
+
+returns : tie.Need-returns
+unfolding expansion
+returns c =
+    λ const label ops only. rw (
+      c .addi3 .ensures,
+      c .before .addi2 .ensures,
+      c .before .before .load-pair .ensures,
+      c .before .before .before .addi .ensures,
+      c .before .before .before .before .ecalls .ensures,
+    )
+    (only _)
+
+pub read-spec : {M : Type 1} → statement M
+read-spec =
+    tie.close
+    (tie.spec
+    (λ c κs. search needs)  -- ecalls-requires
+    (λ c κs. search needs)  -- addi-requires
+    (λ c κs. search needs)  -- load-pair-requires
+    (λ c κs. search needs)  -- addi-requires-2
+    (λ c κs. search needs)  -- addi-requires-3
+    returns)
