@@ -1,6 +1,7 @@
 // Items to words: what an item emits, into the part of the words that it is lent.
 use crate::addresses::Starts;
 use crate::expansions::Expansion;
+use crate::expansions::Slot;
 use crate::expansions::expand;
 use crate::pseudo::LineKind;
 use crate::pseudo::Pseudo;
@@ -37,14 +38,19 @@ pub enum EmitStep {
     Refused(u8, u32),
 }
 
+fn slot_word(slot: Slot) -> Encoded
+    ensures { λ r. ⌜ answerOf r ≡ encoding (slot .inst) ⌝ }
+{
+    let inst = slot.inst;
+    encode(inst)
+}
+
 // The word of an expansion's kth instruction.
 fn word_at(e: Expansion, k: usize) -> Encoded
     requires { ⌜ k < longest ⌝ }
     ensures { λ r. ⌜ answerOf r ≡ encoding (slotAt (e .slots) k) ⌝ }
 {
-    let slot = e.slots[k];
-    let inst = slot.inst;
-    encode(inst)
+    slot_word(e.slots[k])
 }
 
 // The words of so many of its instructions, in order. The encoder refuses none of them (`emission-refused`).
