@@ -9,9 +9,9 @@ use lib.ListN.{length, take, replicate, length-take, length-replicate}
 use lib.Seq.{take-all}
 use borrow.Author.Tests.{ltb-true, ltb-false, lt-ltb, eq-eqb, ne-eqb}
 use Rattle.numbers.specs.Text.{text}
-use Rattle.layout.specs.Limits.{Lent, textLimit, wordLimit, dataLimit, labelLimit, equateLimit, itemLimit, labelSize, equateSize, itemSize}
+use Rattle.layout.specs.Limits.{Lent, full, textLimit, wordLimit, dataLimit, labelLimit, equateLimit, itemLimit, labelSize, equateSize, itemSize}
 use Rattle.layout.specs.Layouts.{Answer, layoutOf, callOf}
-use Rattle.bench.specs.Lines.{decimalIn, decimal, fields, acceptedLine, refusedLine, answerLine, fullSize, benchLine}
+use Rattle.bench.specs.Lines.{decimalIn, decimal, fields, acceptedLine, refusedLine, answerLine, benchLine}
 
 ok-line : (a : Answer) → a .number ≡ 0
     → acceptedLine (a .counts .words) (a .counts .dataBytes) (a .counts .bssSize) (a .counts .evaluations) ≡ answerLine a
@@ -33,13 +33,13 @@ zerosLent =
       itemBytes = length {A = ℕ} (replicate (itemLimit * itemSize) 0);
     }
 
-pub zeros-full : zerosLent ≡ fullSize
+pub zeros-full : zerosLent ≡ full
 zeros-full = simp length-replicate
 
 -- an answer that is what the definition gives: its line is the text's, accepted or refused
-module _ (t : List ℕ) (k : Lent) (a : Answer) (given : a ≡ callOf t 0 k) (full : k ≡ fullSize) where
+module _ (t : List ℕ) (k : Lent) (a : Answer) (given : a ≡ callOf t 0 k) (lent : k ≡ full) where
   given-line : answerLine a ≡ benchLine t
-  given-line = ap answerLine given ∙ ap (λ (l : Lent). answerLine (callOf t 0 l)) full
+  given-line = ap answerLine given ∙ ap (λ (l : Lent). answerLine (callOf t 0 l)) lent
 
   pub accepted-call : a .number ≡ 0
       → acceptedLine (a .counts .words) (a .counts .dataBytes) (a .counts .bssSize) (a .counts .evaluations) ≡ benchLine t

@@ -1,10 +1,10 @@
 -- The bench program's line. Document 01, "Proved table and bench program".
-use Prim.Native.Nat.{ℕ, zero, suc, _+_, _*_, _/_, _%_}
+use Prim.Native.Nat.{ℕ, zero, suc, _+_, _/_, _%_}
 use mathlib.Core.List.{List, [], _∷_, _++_}
 use mathlib.Core.Bool.{true, false}
 use lib.Dec.{ltb, eqb}
 use Rattle.numbers.specs.Text.{text, byte}
-use Rattle.layout.specs.Limits.{Lent, wordLimit, dataLimit, labelLimit, equateLimit, itemLimit, labelSize, equateSize, itemSize}
+use Rattle.layout.specs.Limits.{full}
 use Rattle.layout.specs.Layouts.{Answer, callOf}
 
 -- a digit's byte
@@ -45,17 +45,7 @@ answerLine a =
       | false ↦ refusedLine (a .number) (a .line)
     ]
 
--- "It lends buffers of every limit's full size"
-abbrev pub fullSize : Lent
-fullSize =
-    record {
-      words = wordLimit;
-      dataBytes = dataLimit;
-      labelBytes = labelLimit * labelSize;
-      equateBytes = equateLimit * equateSize;
-      itemBytes = itemLimit * itemSize;
-    }
-
--- "The program reads a source on standard input, base 0, and writes one line": the line that a text gets
+-- "The program reads a source on standard input, base 0, and writes one line": the line that a text gets. "It lends buffers of
+-- every limit's full size"
 abbrev pub benchLine : List ℕ → List ℕ
-benchLine t = answerLine (callOf t 0 fullSize)
+benchLine t = answerLine (callOf t 0 full)

@@ -9,7 +9,7 @@ use lib.IntN.{ℤ, pos, negsuc}
 use Rattle.numbers.specs.Results.{Result, value, refused, mapped}
 use Rattle.numbers.specs.Text.{text}
 use Rattle.layout.specs.Refusals.{Refusal}
-use Rattle.layout.specs.Limits.{roomOf}
+use Rattle.layout.specs.Limits.{full, roomOf}
 use Rattle.layout.specs.Pieces.{lines, linePieces}
 use Rattle.layout.specs.State.{Equate, State, start}
 use Rattle.layout.specs.Stage.{lineStage}
@@ -18,7 +18,7 @@ use Rattle.layout.specs.Layouts.{EquateAt, ItemAt, Layout}
 use Rattle.layout.specs.Terms.{literal, named, Term, termsFrom, termsOf, signedSum, namesIn, isUsed}
 use Rattle.layout.specs.Demands.{recordedValue, recordedAddress, finalValue, largest, lawfulRound, sumOfRounds, itemWords}
 use Rattle.layout.proofs.Computing.{computing}
-use Rattle.layout.proofs.TwelveCases.{full, laid, wordsOf, dataOf, no}
+use Rattle.layout.proofs.TwelveCases.{laid, wordsOf, dataOf, no}
 
 -- what the line stage reads
 abbrev stateOf : Result Refusal State → State

@@ -11,6 +11,7 @@ use Rattle.numbers.specs.Results.{refused}
 use Rattle.numbers.specs.Text.{text, same}
 use Rattle.numbers.proofs.Bools.{none-some}
 use Rattle.layout.specs.declared.state.Section.the-variants as section
+use Rattle.layout.specs.Limits.{full}
 use Rattle.layout.specs.Pieces.{piece}
 use Rattle.layout.specs.Refusals.{Refusal}
 use Rattle.layout.specs.State.{Equate, State}
@@ -21,7 +22,6 @@ use Rattle.layout.specs.Chains.{Among, first, uses, undefined, circular,
 use Rattle.layout.specs.Demands.{BeforeRounds}
 use Rattle.layout.proofs.ResultLaws.{some-same}
 use Rattle.layout.proofs.Computing.{computing}
-use Rattle.layout.proofs.TwelveCases.{full}
 use Rattle.layout.proofs.DemandLaws.{unresolved-exactly}
 
 -- what the line `a = EXPR` says

@@ -17,7 +17,7 @@ use Rattle.layout.specs.declared.state.Section.the-variants as section
 use Rattle.layout.specs.declared.pseudo.Pseudo.the-variants.{Li}
 use Rattle.layout.specs.Bytes.{le}
 use Rattle.layout.specs.Pieces.{piece, lines, linePieces}
-use Rattle.layout.specs.Limits.{roomOf}
+use Rattle.layout.specs.Limits.{full, roomOf}
 use Rattle.layout.specs.State.{Label, Equate, ItemLine, LabelWord, Own, State, start}
 use Rattle.layout.specs.Stage.{lineStage}
 use Rattle.layout.specs.Addresses.{LabelAt}
@@ -29,7 +29,6 @@ use Rattle.layout.specs.Demands.{recordedValue, recordedAddress, finalVa
 use Rattle.numbers.proofs.Bools.{none-some}
 use Rattle.layout.proofs.ResultLaws.{value-same, some-same}
 use Rattle.layout.proofs.Computing.{computing}
-use Rattle.layout.proofs.TwelveCases.{full}
 
 -- ---- answers
 

@@ -14,7 +14,7 @@ use Rattle.layout.specs.declared.records.EquateRecord.{EquateRecord}
 use Rattle.layout.specs.declared.records.ItemRecord.{ItemRecord}
 use Rattle.layout.specs.declared.records.ExprRecord.{ExprRecord}
 use Rattle.layout.specs.declared.records.LabelWordRecord.{LabelWordRecord}
-use Rattle.layout.specs.Limits.{Lent, roomOf, labelSize, equateSize, itemSize}
+use Rattle.layout.specs.Limits.{Lent, full, roomOf, labelSize, equateSize, itemSize}
 use Rattle.layout.specs.Records.{fieldBytes, labelFields, equateFields, itemFields, leValue, labelRecordAt, equateRecordAt, itemRecordAt}
 use Rattle.layout.specs.code.Tables.{exprSize, labelWordSize, exprFields, labelWordFields}
 use Rattle.layout.specs.code.Tables.{exprRecordAt, labelWordRecordAt}
@@ -22,7 +22,7 @@ use Rattle.layout.specs.Directives.{addressOf}
 use Rattle.layout.specs.Stage.{addLabelWord}
 use Rattle.layout.specs.Layouts.{layoutOf, callOf}
 use Rattle.layout.proofs.Computing.{computing}
-use Rattle.layout.proofs.TwelveCases.{full, laid, dataOf, no}
+use Rattle.layout.proofs.TwelveCases.{laid, dataOf, no}
 
 -- ---- whole answers
 

@@ -1,6 +1,6 @@
 -- The twelve numbered cases of document 01, "Proved table and bench program", by computing on the definitions; base 0 and buffers of every
 -- limit's full size.
-use Prim.Native.Nat.{ℕ, _*_}
+use Prim.Native.Nat.{ℕ}
 use mathlib.Core.Path.{_≡_, refl}
 use mathlib.Core.List.{List, [], _∷_}
 use lib.IntN.{pos}
@@ -8,20 +8,10 @@ use Rattle.numbers.specs.Results.{Result, value, refused, mapped}
 use Rattle.numbers.specs.Text.{text}
 use Rattle.layout.specs.Pieces.{piece}
 use Rattle.layout.specs.Refusals.{Refusal}
-use Rattle.layout.specs.Limits.{Lent, wordLimit, dataLimit, labelLimit, equateLimit, itemLimit, labelSize, equateSize, itemSize}
+use Rattle.layout.specs.Limits.{full}
 use Rattle.layout.specs.Directives.{aligned}
 use Rattle.layout.specs.Layouts.{Layout, layoutOf, callOf}
 use Rattle.layout.proofs.Computing.{computing}
-
-abbrev pub full : Lent
-full =
-    record {
-      words = wordLimit;
-      dataBytes = dataLimit;
-      labelBytes = labelLimit * labelSize;
-      equateBytes = equateLimit * equateSize;
-      itemBytes = itemLimit * itemSize;
-    }
 
 abbrev pub laid : List ℕ → Result Refusal Layout
 laid t = layoutOf t 0 full

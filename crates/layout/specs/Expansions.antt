@@ -82,28 +82,53 @@ onNumber none b const f = cond (startsWith (text "'") b) (refused 19) (liConstan
 abbrev pub liLoad : Register → ℤ → Expanded
 liLoad rd z = value (cond (isSigned12 z) (Addi rd x0 z ∷ []) (loadPair rd (bits 32 z)))
 
+-- the instructions of a register
+
+abbrev pub pushes : Register → List Instruction
+pushes rs = Addi sp sp (negℤ (pos 4)) ∷ Sw rs sp (pos 0) ∷ []
+
+abbrev pub pops : Register → List Instruction
+pops rd = Lw rd sp (pos 0) ∷ Addi sp sp (pos 4) ∷ []
+
+abbrev pub prints : Register → List Instruction
+prints rd = Addi a7 x0 (pos 1000) ∷ Addi a0 rd (pos 0) ∷ Ecall ∷ []
+
+-- four bytes into a place on the stack, which is then loaded
+abbrev pub randoms : Register → List Instruction
+randoms rd =
+    Addi sp sp (negℤ (pos 4)) ∷ Addi a7 x0 (pos 278) ∷ Addi a0 sp (pos 0) ∷ Addi a1 x0 (pos 4) ∷ Addi a2 x0 (pos 0) ∷ Ecall ∷
+    Lw rd sp (pos 0) ∷ Addi sp sp (pos 4) ∷ []
+
+-- the instructions of a label's address
+
+-- the length is counted up to the byte 0, then written to standard output
+abbrev pub printsStr : ℕ → List Instruction
+printsStr n =
+    loadPair a1 n ++ Addi a2 a1 (pos 0) ∷ Lbu t0 a2 (pos 0) ∷ Beq t0 x0 (pos 12) ∷ Addi a2 a2 (pos 1) ∷ Jal x0 (negℤ (pos 12)) ∷
+    Sub a2 a2 a1 ∷ Addi a0 x0 (pos 1) ∷ Addi a7 x0 (pos 64) ∷ Ecall ∷ []
+
+-- up to 256 bytes of standard input
+abbrev pub reads : ℕ → List Instruction
+reads n = Addi a0 x0 (pos 0) ∷ loadPair a1 n ++ Addi a2 x0 (pos 256) ∷ Addi a7 x0 (pos 63) ∷ Ecall ∷ []
+
+abbrev pub readsByte : ℕ → List Instruction
+readsByte n = Addi a7 x0 (pos 1010) ∷ loadPair a0 n ++ Ecall ∷ []
+
+-- one operand, a register, or a label that is no register
+abbrev pub ofRegister : List (List ℕ) → (Register → List Instruction) → Expanded
+ofRegister ops f = oneOperand ops (λ a. onRegister (registerOf a) (λ rd. value (f rd)))
+
+abbrev pub ofLabel : (List ℕ → Option ℕ) → List (List ℕ) → (ℕ → List Instruction) → Expanded
+ofLabel label ops f = oneOperand ops (λ a. noRegister (registerOf a) (onLabel (label a) (λ n. value (f n))))
+
 -- what each pseudo stands for, of its operands; `const` gives an equate's value, `label` a label's address
 unfoldable pub expansion : (List ℕ → Option ℤ) → (List ℕ → Option ℕ) → Pseudo → List (List ℕ) → Expanded
 expansion const label Li ops = twoOperands ops (λ a b. onRegister (registerOf a) (λ rd. onNumber (immOf b) b const (liLoad rd)))
 expansion const label La ops = twoOperands ops (λ a b. onRegister (registerOf a) (λ rd. onLabel (label b) (λ n. value (loadPair rd n))))
-expansion const label Push ops =
-    oneOperand ops (λ a. onRegister (registerOf a) (λ rs. value (Addi sp sp (negℤ (pos 4)) ∷ Sw rs sp (pos 0) ∷ [])))
-expansion const label Pop ops =
-    oneOperand ops (λ a. onRegister (registerOf a) (λ rd. value (Lw rd sp (pos 0) ∷ Addi sp sp (pos 4) ∷ [])))
-expansion const label Print ops =
-    oneOperand ops (λ a. onRegister (registerOf a) (λ rd. value (Addi a7 x0 (pos 1000) ∷ Addi a0 rd (pos 0) ∷ Ecall ∷ [])))
--- the length is counted up to the byte 0, then written to standard output
-expansion const label PrintStr ops =
-    oneOperand ops (λ a. noRegister (registerOf a) (onLabel (label a) (λ n. value (
-    loadPair a1 n ++ Addi a2 a1 (pos 0) ∷ Lbu t0 a2 (pos 0) ∷ Beq t0 x0 (pos 12) ∷ Addi a2 a2 (pos 1) ∷ Jal x0 (negℤ (pos 12)) ∷
-    Sub a2 a2 a1 ∷ Addi a0 x0 (pos 1) ∷ Addi a7 x0 (pos 64) ∷ Ecall ∷ []))))
-expansion const label Read ops =
-    oneOperand ops (λ a. noRegister (registerOf a) (onLabel (label a) (λ n. value (
-    Addi a0 x0 (pos 0) ∷ loadPair a1 n ++ Addi a2 x0 (pos 256) ∷ Addi a7 x0 (pos 63) ∷ Ecall ∷ []))))
-expansion const label ReadByte ops =
-    oneOperand ops (λ a. noRegister (registerOf a) (onLabel (label a) (λ n. value (
-    Addi a7 x0 (pos 1010) ∷ loadPair a0 n ++ Ecall ∷ []))))
-expansion const label Random ops =
-    oneOperand ops (λ a. onRegister (registerOf a) (λ rd. value (
-    Addi sp sp (negℤ (pos 4)) ∷ Addi a7 x0 (pos 278) ∷ Addi a0 sp (pos 0) ∷ Addi a1 x0 (pos 4) ∷ Addi a2 x0 (pos 0) ∷ Ecall ∷
-    Lw rd sp (pos 0) ∷ Addi sp sp (pos 4) ∷ [])))
+expansion const label Push ops = ofRegister ops pushes
+expansion const label Pop ops = ofRegister ops pops
+expansion const label Print ops = ofRegister ops prints
+expansion const label PrintStr ops = ofLabel label ops printsStr
+expansion const label Read ops = ofLabel label ops reads
+expansion const label ReadByte ops = ofLabel label ops readsByte
+expansion const label Random ops = ofRegister ops randoms

@@ -1,5 +1,5 @@
 -- Limits, record sizes, and how much may be laid out. Document 01, "Records", "Refused because of the state".
-use Prim.Native.Nat.{ℕ, _/_, min}
+use Prim.Native.Nat.{ℕ, _*_, _/_, min}
 use Rattle.layout.specs.declared.limits.Room.{Room}
 
 -- "40 base above 0xFF000000", "41 text above 65,536 bytes"
@@ -49,6 +49,17 @@ pub record Lent : Type 0 where
   pub labelBytes : ℕ
   pub equateBytes : ℕ
   pub itemBytes : ℕ
+
+-- "buffers of every limit's full size": what the bench program lends
+abbrev pub full : Lent
+full =
+    record {
+      words = wordLimit;
+      dataBytes = dataLimit;
+      labelBytes = labelLimit * labelSize;
+      equateBytes = equateLimit * equateSize;
+      itemBytes = itemLimit * itemSize;
+    }
 
 -- how much may be laid out: each limit met with "the lent length" or "the lent records"
 abbrev pub roomOf : Lent → Room

@@ -14,7 +14,7 @@ use crate::symbols::resolve_symbols;
 use crate::writers::put_zeros;
 ghost use mathlib.Core.Path.{_≡_};
 ghost use Prim.Native.Nat.{_≤_};
-ghost use lib.ListN.{length, replicate};
+ghost use lib.ListN.{length};
 ghost use Rattle.layout.specs.Limits.{baseLimit, textLimit};
 ghost use Rattle.layout.specs.Layouts.{checkBytes, layoutOf};
 ghost use Rattle.layout.specs.Calls.{Assembled};

@@ -43,12 +43,13 @@ ghost use Rattle.layout.specs.Bytes.{countBefore};
 ghost use Rattle.layout.specs.Addresses.{labelAddress};
 ghost use Rattle.layout.specs.Rounds.{constant};
 ghost use Rattle.layout.specs.Expansions.{Expanded, oneOperand, twoOperands, onRegister, noRegister, onLabel, onNumber, liLoad};
+ghost use Rattle.layout.specs.Expansions.{pushes, pops, prints, randoms, printsStr, reads, readsByte};
 ghost use Rattle.layout.specs.code.Steps.{Some};
 ghost use Rattle.layout.specs.code.Tables.{LabelsIndexed};
 ghost use Rattle.layout.specs.code.Placed.{WherePlaced, addressOf};
 ghost use Rattle.layout.specs.code.Names.{EquateTable, NamesReady, NamesKnown};
 ghost use Rattle.layout.specs.code.Expands.{spacedOperands, onlyThen, twoThen, loadThen, targetThen, immThen, longest, ecallsOf, withSlot, withSlots, expandedOf};
-ghost use Rattle.layout.specs.code.Expands.{WhereKnown, OfRegister, OfLabel, ExpandsAlone, ExpandsByLabels, ExpandsByEquates, expansionIn};
+ghost use Rattle.layout.specs.code.Expands.{WhereKnown, ExpandsAlone, ExpandsByLabels, ExpandsByEquates, expansionIn};
 
 // The longest expansion, print_str's.
 pub const LONGEST: usize = 11;
@@ -428,7 +429,7 @@ fn parse_la(
 
 // push rs
 fn push(rs: Register) -> Expansion
-    ensures { λ r. ⌜ OfRegister pseudo.Push rs r ⌝ }
+    ensures { λ r. ⌜ expandedOf r ≡ value (pushes rs) ⌝ }
 {
     let sp = Register::SP;
     let mut e = ecalls(Count::Now(2));
@@ -447,7 +448,7 @@ fn parse_push(ops: &[u8]) -> Expansion
 
 // pop rd
 fn pop(rd: Register) -> Expansion
-    ensures { λ r. ⌜ OfRegister pseudo.Pop rd r ⌝ }
+    ensures { λ r. ⌜ expandedOf r ≡ value (pops rd) ⌝ }
 {
     let sp = Register::SP;
     let mut e = ecalls(Count::Now(2));
@@ -466,7 +467,7 @@ fn parse_pop(ops: &[u8]) -> Expansion
 
 // print rd: a7 = 1000, a0 = rd, ecall
 fn print(rd: Register) -> Expansion
-    ensures { λ r. ⌜ OfRegister pseudo.Print rd r ⌝ }
+    ensures { λ r. ⌜ expandedOf r ≡ value (prints rd) ⌝ }
 {
     let mut e = ecalls(Count::Now(3));
     e = addi(e, 0, Register::A7, Register::ZERO, 1000);
@@ -484,7 +485,7 @@ fn parse_print(ops: &[u8]) -> Expansion
 
 // print_str label, whose address is a: the length is counted up to the byte 0, then written to standard output
 fn print_str(a: u32) -> Expansion
-    ensures { λ r. ⌜ OfLabel pseudo.PrintStr a r ⌝ }
+    ensures { λ r. ⌜ expandedOf r ≡ value (printsStr a) ⌝ }
 {
     let zero = Register::ZERO;
     let t0 = Register::T0;
@@ -521,7 +522,7 @@ fn parse_print_str(
 
 // read label: up to 256 bytes of standard input
 fn read(a: u32) -> Expansion
-    ensures { λ r. ⌜ OfLabel pseudo.Read a r ⌝ }
+    ensures { λ r. ⌜ expandedOf r ≡ value (reads a) ⌝ }
 {
     let zero = Register::ZERO;
     let mut e = ecalls(Count::Now(6));
@@ -550,7 +551,7 @@ fn parse_read(
 
 // read_byte label
 fn read_byte(a: u32) -> Expansion
-    ensures { λ r. ⌜ OfLabel pseudo.ReadByte a r ⌝ }
+    ensures { λ r. ⌜ expandedOf r ≡ value (readsByte a) ⌝ }
 {
     let mut e = ecalls(Count::Now(4));
     e = addi(e, 0, Register::A7, Register::ZERO, 1010);
@@ -576,7 +577,7 @@ fn parse_read_byte(
 
 // random rd: four bytes into a place on the stack, which is then loaded
 fn random(rd: Register) -> Expansion
-    ensures { λ r. ⌜ OfRegister pseudo.Random rd r ⌝ }
+    ensures { λ r. ⌜ expandedOf r ≡ value (randoms rd) ⌝ }
 {
     let sp = Register::SP;
     let zero = Register::ZERO;

@@ -111,17 +111,6 @@ expandedOf e = mapped (slotsFrom (e .slots) 0) (countOf (e .count))
 abbrev pub WhereKnown : OverCall → OverCall → OverCall → ℕ → (List Known → Type 0) → Type 0
 WhereKnown t e x m P = (ks : List Known) → EquateTable (now (t .entry)) (now (e .entry)) (now (x .entry)) m ks → P ks
 
--- the answer is the expansion of whatever operands are this register alone, or the label of this address alone
-abbrev pub OfRegister : Pseudo → Register → Expansion → Type 0
-OfRegister p rd r =
-    (const : List ℕ → Option ℤ) (label : List ℕ → Option ℕ) (ops : List (List ℕ))
-    → ((f : Register → Expanded) → f rd ≡ oneOperand ops (λ a. onRegister (registerOf a) f)) → expandedOf r ≡ expansion const label p ops
-
-abbrev pub OfLabel : Pseudo → ℕ → Expansion → Type 0
-OfLabel p n r =
-    (const : List ℕ → Option ℤ) (label : List ℕ → Option ℕ) (ops : List (List ℕ))
-    → ((f : ℕ → Expanded) → f n ≡ oneOperand ops (λ a. noRegister (registerOf a) (onLabel (label a) f))) → expandedOf r ≡ expansion const label p ops
-
 -- the answer is the expansion of the operands in a text: by whatever names, by the labels or by the equates that are lent
 abbrev pub ExpandsAlone : Pseudo → OverCall → Expansion → Type 0
 ExpandsAlone p o r =

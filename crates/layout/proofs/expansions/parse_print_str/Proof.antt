@@ -13,10 +13,11 @@ returns c =
     ∙ target-refused _ _ _ (c .before .before .before .before .before .before .label-operand .ensures base σ placed _) _ (c .before .before .number .given .1)
 
 returns-2 : tie.Need-returns-2
+unfolding expansion
 returns-2 c =
     let found = c .before .before in
-    λ base σ placed const. c .print-str .ensures const _ _
-    (λ f. target-at _ f _ (found .before .before .before .before .label-operand .ensures base σ placed f) _ (found .a .given .1))
+    λ base σ placed const. c .print-str .ensures
+    ∙ target-at _ _ _ (found .before .before .before .before .label-operand .ensures base σ placed _) _ (found .a .given .1)
 
 pub parse-print-str-spec : {M : Type 1} → statement M
 parse-print-str-spec =

@@ -12,9 +12,10 @@ returns c =
     λ const label. c .refused .ensures ∙ register-none _ _ _ (c .before .before .before .only-register .ensures _) (c .before .enum-told .given .1)
 
 returns-2 : tie.Need-returns-2
+unfolding expansion
 returns-2 c =
     let found = c .before .before in
-    λ const label. c .push .ensures const label _ (λ f. register-some _ f _ (found .before .before .only-register .ensures f) _ (found .rs .given .1))
+    λ const label. c .push .ensures ∙ register-some _ _ _ (found .before .before .only-register .ensures _) _ (found .rs .given .1)
 
 pub parse-push-spec : {M : Type 1} → statement M
 parse-push-spec =

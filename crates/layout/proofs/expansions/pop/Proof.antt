@@ -1,12 +1,11 @@
 -- `expansions::pop`: its two instructions.
-use Rattle.layout.specs.Expansions.{expansion}
+use mathlib.Core.Path.{refl}
 use borrow.Author.Needs.{needs}
 use Rattle.layout.proofs.expansions.pop.Statement.{statement}
 use Rattle.layout.proofs.expansions.pop.Tie as tie
 
 returns : tie.Need-returns
-unfolding expansion
-returns c = λ const label ops only. rw (c .addi .ensures, c .before .lw .ensures, c .before .before .ecalls .ensures) (only _)
+returns c = rw (c .addi .ensures, c .before .lw .ensures, c .before .before .ecalls .ensures) refl
 
 pub pop-spec : {M : Type 1} → statement M
 pop-spec =

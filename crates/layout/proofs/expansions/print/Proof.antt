@@ -1,12 +1,11 @@
 -- `expansions::print`: its three instructions.
-use Rattle.layout.specs.Expansions.{expansion}
+use mathlib.Core.Path.{refl}
 use borrow.Author.Needs.{needs}
 use Rattle.layout.proofs.expansions.print.Statement.{statement}
 use Rattle.layout.proofs.expansions.print.Tie as tie
 
 returns : tie.Need-returns
-unfolding expansion
-returns c = λ const label ops only. rw (c .addi2 .ensures, c .before .addi .ensures, c .before .before .ecalls .ensures) (only _)
+returns c = rw (c .addi2 .ensures, c .before .addi .ensures, c .before .before .ecalls .ensures) refl
 
 pub print-spec : {M : Type 1} → statement M
 print-spec =

@@ -1,13 +1,12 @@
 -- `expansions::print_str`: its eleven instructions.
-use Rattle.layout.specs.Expansions.{expansion}
+use mathlib.Core.Path.{refl}
 use borrow.Author.Needs.{needs}
 use Rattle.layout.proofs.expansions.print_str.Statement.{statement}
 use Rattle.layout.proofs.expansions.print_str.Tie as tie
 
 returns : tie.Need-returns
-unfolding expansion
 returns c =
-    λ const label ops only. rw (
+    rw (
       c .addi4 .ensures,
       c .before .addi3 .ensures,
       c .before .before .sub .ensures,
@@ -19,7 +18,7 @@ returns c =
       c .before .before .before .before .before .before .before .before .load-pair .ensures,
       c .before .before .before .before .before .before .before .before .before .ecalls .ensures,
     )
-    (only _)
+    refl
 
 pub print-str-spec : {M : Type 1} → statement M
 print-str-spec =

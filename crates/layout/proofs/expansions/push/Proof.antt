@@ -1,12 +1,11 @@
 -- `expansions::push`: its two instructions.
-use Rattle.layout.specs.Expansions.{expansion}
+use mathlib.Core.Path.{refl}
 use borrow.Author.Needs.{needs}
 use Rattle.layout.proofs.expansions.push.Statement.{statement}
 use Rattle.layout.proofs.expansions.push.Tie as tie
 
 returns : tie.Need-returns
-unfolding expansion
-returns c = λ const label ops only. rw (c .sw .ensures, c .before .addi .ensures, c .before .before .ecalls .ensures) (only _)
+returns c = rw (c .sw .ensures, c .before .addi .ensures, c .before .before .ecalls .ensures) refl
 
 pub push-spec : {M : Type 1} → statement M
 push-spec =

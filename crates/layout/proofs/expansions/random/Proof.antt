@@ -1,13 +1,12 @@
 -- `expansions::random`: its eight instructions.
-use Rattle.layout.specs.Expansions.{expansion}
+use mathlib.Core.Path.{refl}
 use borrow.Author.Needs.{needs}
 use Rattle.layout.proofs.expansions.random.Statement.{statement}
 use Rattle.layout.proofs.expansions.random.Tie as tie
 
 returns : tie.Need-returns
-unfolding expansion
 returns c =
-    λ const label ops only. rw (
+    rw (
       c .addi6 .ensures,
       c .before .lw .ensures,
       c .before .before .addi5 .ensures,
@@ -17,7 +16,7 @@ returns c =
       c .before .before .before .before .before .before .addi .ensures,
       c .before .before .before .before .before .before .before .ecalls .ensures,
     )
-    (only _)
+    refl
 
 pub random-spec : {M : Type 1} → statement M
 random-spec =

@@ -1,20 +1,19 @@
 -- `expansions::read`: its six instructions.
-use Rattle.layout.specs.Expansions.{expansion}
+use mathlib.Core.Path.{refl}
 use borrow.Author.Needs.{needs}
 use Rattle.layout.proofs.expansions.read.Statement.{statement}
 use Rattle.layout.proofs.expansions.read.Tie as tie
 
 returns : tie.Need-returns
-unfolding expansion
 returns c =
-    λ const label ops only. rw (
+    rw (
       c .addi3 .ensures,
       c .before .addi2 .ensures,
       c .before .before .load-pair .ensures,
       c .before .before .before .addi .ensures,
       c .before .before .before .before .ecalls .ensures,
     )
-    (only _)
+    refl
 
 pub read-spec : {M : Type 1} → statement M
 read-spec =

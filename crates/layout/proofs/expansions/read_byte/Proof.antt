@@ -1,12 +1,11 @@
 -- `expansions::read_byte`: its four instructions.
-use Rattle.layout.specs.Expansions.{expansion}
+use mathlib.Core.Path.{refl}
 use borrow.Author.Needs.{needs}
 use Rattle.layout.proofs.expansions.read_byte.Statement.{statement}
 use Rattle.layout.proofs.expansions.read_byte.Tie as tie
 
 returns : tie.Need-returns
-unfolding expansion
-returns c = λ const label ops only. rw (c .load-pair .ensures, c .before .addi .ensures, c .before .before .ecalls .ensures) (only _)
+returns c = rw (c .load-pair .ensures, c .before .addi .ensures, c .before .before .ecalls .ensures) refl
 
 pub read-byte-spec : {M : Type 1} → statement M
 read-byte-spec =
