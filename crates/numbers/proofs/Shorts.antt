@@ -1,26 +1,30 @@
--- Short numbers of a data directive: blanks before an operand, digits up to a comma, and what operand they make.
+-- The shortcuts of numbers. A short number of a data directive: blanks before an operand, digits up to a comma, and what operand they
+-- make. A plain number: digits alone.
 use Prim.Native.Nat.{ℕ, suc, _+_, _-_, _*_, _^_, _≤_, _<_}
 use mathlib.Core.Path.{_≡_, refl, sym, _∙_, ap}
 use mathlib.Core.List.{List, [], _∷_}
 use mathlib.Core.Bool.{Bool, true, false, not, _&&_, _||_, true≢false}
-use mathlib.Core.Option.{some}
+use mathlib.Core.Option.{Option, none, some}
 use native.Mathlib.Nat.{mul-le-mul, add-zero}
 use native.Mathlib.Numerals.{add-one}
 use native.Mathlib.Omega.{arith}
 use lib.Dec.{leb, ltb, eqb}
 use lib.ListN.{length, drop, getD, length-drop}
 use lib.Seq.{drop-cons, drop-drop, getD-drop}
-use lib.IntN.{pos}
+use lib.IntN.{ℤ, pos}
 use borrow.Author.Tests.{le-leb, le-ltb, ne-eqb, eqb-true, leb-false, not-false}
+use Rattle.numbers.specs.declared.ints.Imm64.{Imm64}
+use Rattle.numbers.specs.declared.ints.Imm64.the-variants.{Value, Invalid}
 use Rattle.numbers.specs.declared.operands.Operand.{Operand}
 use Rattle.numbers.specs.declared.operands.Operand.the-variants.{At}
 use Rattle.numbers.specs.declared.short.Short.{Short}
 use Rattle.numbers.specs.declared.short.Short.the-variants.{Is, No}
 use Rattle.numbers.specs.Text.{text, byte, leading, leadingSpaces, trimStart, trimmed, indexOf, before, startsWith}
-use Rattle.numbers.specs.Numbers.{digitOf, allDigits, digitsFrom, digitsOf, positiveOf, signedDigits, prefixed, outerSigned, literalOf, imm64Of}
+use Rattle.numbers.specs.Numbers.{digitOf, allDigits, digitsFrom, digitsOf, positiveOf, signedDigits, prefixed, outerSigned, numberOf, literalOf, imm64Of}
 use Rattle.numbers.specs.code.Cursors.{operandAt}
-use Rattle.numbers.specs.code.Shorts.{DigitsMean, DigitsOf, ShortMeans, ShortOf}
-use Rattle.numbers.proofs.Bools.{and-left, and-right, or-left, or-right}
+use Rattle.numbers.specs.code.Meanings.{imm64Value}
+use Rattle.numbers.specs.code.Shorts.{DigitsMean, DigitsOf, ShortMeans, ShortOf, PlainMeans, PlainOf}
+use Rattle.numbers.proofs.Bools.{none-some, and-left, and-right, or-left, or-right}
 use Rattle.numbers.proofs.Prefixes.{prefix-splits, two-bytes}
 use Rattle.numbers.proofs.Places.{index-within, before-length}
 use Rattle.numbers.proofs.Parts.{partSpan, part-text}
@@ -123,17 +127,35 @@ hex-plain : (s : List ℕ) → allDigits 16 s ≡ true → outerSigned (48 ∷ 1
 unfolding outerSigned prefixed startsWith
 hex-plain s h = digits-signed 16 s (omega arith) h
 
+-- a number that stands there alone is read so in an expression and elsewhere
+read-alone : (s : List ℕ) (z : ℤ) → outerSigned s ≡ some z → startsWith (text "'") s ≡ false → PlainMeans s z
+unfolding numberOf imm64Of literalOf
+read-alone s z reads quote =
+    let stays = number-stays s z reads in
+    record { number = rw stays reads; imm = rw (stays, quote) reads }
+
+-- so are decimal digits: the code's answer
+pub plain-digits : (s : List ℕ) (r : Imm64) → imm64Value r ≡ positiveOf (digitsOf 10 (2 ^ 63 - 1) s) → PlainOf s r
+plain-digits s Invalid e = tt
+plain-digits s (Value z) e = go (digitsOf 10 (2 ^ 63 - 1) s) refl e
+  where
+    go : (o : Option ℕ) → digitsOf 10 (2 ^ 63 - 1) s ≡ o → some z ≡ positiveOf o → PlainMeans s z
+    go none f q = absurd (none-some (sym q))
+    go (some n) f q =
+        let plain = decimal-plain s (digits-all 10 (2 ^ 63 - 1) s n f .1) in
+        read-alone s z (plain .0 ∙ sym e) (plain .1)
+
 -- an operand that is a number
 short-at : (s : List ℕ) (at v next : ℕ) → at ≤ length s → v < 2 ^ 31 → next ≡ suc (at + indexOf (byte ",") (drop at s))
     → outerSigned (before (byte ",") (drop at s)) ≡ some (pos v) → startsWith (text "'") (before (byte ",") (drop at s)) ≡ false
     → ShortMeans s at v next
-unfolding operandAt imm64Of literalOf
+unfolding operandAt
 short-at s at v next h small e reads quote =
-    let stays = number-stays (before (byte ",") (drop at s)) (pos v) reads in
+    let part = before (byte ",") (drop at s) in
     record {
       operand = partSpan s at;
       found = rw (le-leb at (length s) h, e) refl;
-      reads = rw (part-text s at, stays, stays, quote) reads;
+      reads = rw (part-text s at, number-stays part (pos v) reads) (read-alone part (pos v) reads quote .imm);
       small = small;
     }
 

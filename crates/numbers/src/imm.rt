@@ -17,7 +17,8 @@ ghost use mathlib.Core.Path.{_≡_};
 ghost use Prim.Native.Nat.{_-_, _^_};
 ghost use Rattle.numbers.specs.Numbers.{digitsOf, positiveOf, negativeOf, signedDigits, prefixed, negated};
 ghost use Rattle.numbers.specs.code.Meanings.{baseOf, immValue, imm64Value};
-ghost use Rattle.numbers.specs.code.Starts.{afterSign, prefixOf, digitFirst};
+ghost use Rattle.numbers.specs.code.Shorts.{PlainOf};
+ghost use Rattle.numbers.specs.code.Starts.{afterSign, prefixOf};
 ghost use Rattle.numbers.specs.Numbers.{outerSigned, numberOf, imm64Of, immOf, spacedImmOf};
 
 // Digits without a sign, or after a plus.
@@ -121,24 +122,11 @@ fn negated_number(n: Imm64) -> Imm64
     Imm64::Value(w)
 }
 
-// Is the first byte a digit other than 0?
-fn first_digit(s: &[u8]) -> bool
-    ensures { λ r. ⌜ r ≡ digitFirst (now (s .entry)) ⌝ }
-{
-    if s.len() == 0 {
-        return false;
-    }
-    (b'1' <= s[0]) & (s[0] <= b'9')
-}
-
-// A number without white space around it. Most are decimal digits and nothing else. What reads the others is called at one place
-// each, so that it is compiled into this function: slices and answers that are handed over in memory take longer than the digits.
+// A number without white space around it. What reads it is called at one place each, so that it is compiled into this function:
+// slices and answers that are handed over in memory take longer than the digits.
 fn trimmed_number(s: &[u8]) -> Imm64
     ensures { λ r. ⌜ imm64Value r ≡ outerSigned (now (s .entry)) ⌝ }
 {
-    if first_digit(s) {
-        return positive(s, Radix::Decimal);
-    }
     let n = prefixed_number(after_sign(s));
     if first_is(s, b'-') {
         return negated_number(n);
@@ -146,10 +134,24 @@ fn trimmed_number(s: &[u8]) -> Imm64
     n
 }
 
+// A shortcut, since most numbers are decimal digits and nothing else: these are read in one pass, before anything is trimmed. All
+// else goes the general way, more than 15 digits too, so that `long_digits` is not compiled into this function.
+fn plain_number(s: &[u8]) -> Imm64
+    ensures { λ r. ⌜ PlainOf (now (s .entry)) r ⌝ }
+{
+    if 15 < s.len() {
+        return Imm64::Invalid;
+    }
+    positive(s, Radix::Decimal)
+}
+
 // A number, but no character literal: what an expression's number is.
 pub fn parse_signed_prefixed_i64(s: &[u8]) -> Imm64
     ensures { λ r. ⌜ imm64Value r ≡ numberOf (now (s .entry)) ⌝ }
 {
+    if let Imm64::Value(v) = plain_number(s) {
+        return Imm64::Value(v);
+    }
     trimmed_number(trim(s))
 }
 
@@ -157,6 +159,9 @@ pub fn parse_signed_prefixed_i64(s: &[u8]) -> Imm64
 pub fn parse_imm64(s: &[u8]) -> Imm64
     ensures { λ r. ⌜ imm64Value r ≡ imm64Of (now (s .entry)) ⌝ }
 {
+    if let Imm64::Value(v) = plain_number(s) {
+        return Imm64::Value(v);
+    }
     let t = trim(s);
     if first_is(t, b'\'') {
         return widened(parse_char_lit(t));

@@ -1,12 +1,11 @@
--- What a number begins with: a sign, a base's prefix, a digit.
+-- What a number begins with: a sign, a base's prefix.
 use Prim.Native.Nat.{ℕ}
 use mathlib.Core.List.{List}
-use mathlib.Core.Bool.{Bool, cond, _&&_, _||_}
-use lib.Dec.{leb}
-use lib.ListN.{getD, drop}
+use mathlib.Core.Bool.{cond, _||_}
+use lib.ListN.{drop}
 use Rattle.numbers.specs.declared.digits.Radix.the-variants.{Binary, Decimal, Hex}
 use Rattle.numbers.specs.declared.imm.Prefix.{Prefix}
-use Rattle.numbers.specs.Text.{text, byte, startsWith}
+use Rattle.numbers.specs.Text.{text, startsWith}
 
 -- a text without the sign that it begins with
 unfoldable pub afterSign : List ℕ → List ℕ
@@ -18,7 +17,3 @@ prefixOf s =
     cond (startsWith (text "0x") s || startsWith (text "0X") s) (record { radix = Hex; len = 2 })
     (cond (startsWith (text "0b") s || startsWith (text "0B") s) (record { radix = Binary; len = 2 })
     (record { radix = Decimal; len = 0 }))
-
--- does a text begin with a digit other than 0?
-abbrev pub digitFirst : List ℕ → Bool
-digitFirst s = leb (byte "1") (getD s 0 0) && leb (getD s 0 0) (byte "9")
