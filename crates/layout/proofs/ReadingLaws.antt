@@ -1,14 +1,14 @@
 -- A directive's readings in data, one after the other: what is read next, and what the loop over them keeps.
-use Prim.Native.Nat.{ℕ, _+_, _^_, _≤_, _<_}
+use Prim.Native.Nat.{ℕ, _+_, _≤_, _<_}
 use native.Mathlib.Omega.{arith}
 use mathlib.Core.Path.{_≡_, refl, ap, _∙_}
 use mathlib.Core.List.{List, [], _∷_, map}
 use mathlib.Core.Option.{some}
 use lib.ListN.{length}
-use lib.IntN.{pos}
-use borrow.Author.Tests.{le-leb, ne-eqb}
+use lib.IntN.{ℤ}
+use borrow.Author.Tests.{ne-eqb}
 use Rattle.numbers.specs.Results.{Result, value, refused, andThen, mapped}
-use Rattle.numbers.specs.Numbers.{immOf, imm64Of}
+use Rattle.numbers.specs.Numbers.{immOf}
 use Rattle.numbers.specs.Literals.{stringOf}
 use Rattle.numbers.specs.declared.text.Span.{Span}
 use Rattle.numbers.specs.code.Spans.{spanned}
@@ -18,7 +18,6 @@ use Rattle.numbers.specs.code.Shorts.{ShortMeans}
 use Rattle.numbers.proofs.Parts.{operand-step, operand-end, operands-all, operand-bounds}
 use Rattle.layout.specs.declared.limits.Room.{Room}
 use Rattle.layout.specs.declared.directives.Width.{Width}
-use Rattle.layout.specs.declared.directives.Width.the-variants.{Byte, Half, Word, Dword}
 use Rattle.layout.specs.declared.directives.Reserve.{Reserve}
 use Rattle.layout.specs.declared.directives.Store.the-variants.{Numbers, Text, Float}
 use Rattle.layout.specs.declared.directives.Source.{Source}
@@ -80,24 +79,11 @@ module _ (t s : List ℕ) (at : ℕ) (p : Span) (next : ℕ) (e : operandAt s at
       let b = operand-bounds s at p next e in
       next-first t (Stores (Numbers w)) s at r next (ap (map (operandWrite w)) (operand-step s at p next e) ∙ rw is refl) f (b .2) (b .1)
 
--- each width reads a number below 2^31 as it stands
-module _ (s : List ℕ) (v : ℕ) (e : imm64Of s ≡ some (pos v)) (h : v < 2 ^ 31) where
-  narrow-small : immOf s ≡ some (pos v)
-  unfolding immOf
-  narrow-small = rw (e, le-leb v 2147483647 (omega arith)) refl
-
-  read-small : (w : Width) → readAt w s ≡ some (pos v)
-  read-small Byte = narrow-small
-  read-small Half = narrow-small
-  read-small Word = narrow-small
-  read-small Dword = e
-
 -- a short number is first
-pub short-first : (t s : List ℕ) (at v next : ℕ) (m : ShortMeans s at v next) (w : Width) (r : Reading)
-    → readingAt t r ≡ numberOrName w (some (pos v)) (spanned s (m .operand)) → ReadingFits t r
+pub short-first : (t s : List ℕ) (at v next : ℕ) (m : ShortMeans s at v next) (w : Width) (z : ℤ) (r : Reading)
+    → readAt w (spanned s (m .operand)) ≡ some z → readingAt t r ≡ numberOrName w (some z) (spanned s (m .operand)) → ReadingFits t r
     → NextIs t (Stores (Numbers w)) s at (nextCode r next)
-short-first t s at v next m w r is =
-    found-first t s at (m .operand) next (m .found) w r (is ∙ rw (read-small (spanned s (m .operand)) v (m .reads) (m .small) w) refl)
+short-first t s at v next m w z r reads is = found-first t s at (m .operand) next (m .found) w r (is ∙ rw reads refl)
 
 -- an operand of a part, by its place in the text
 module _ (t : List ℕ) (q : Span) (at : ℕ) (p : Span) (next : ℕ) (e : operandAt (spanned t q) at ≡ At p next) where

@@ -16,6 +16,7 @@ use crate::state::DataStep;
 use crate::writers::put_bytes;
 use crate::writers::put_number;
 use crate::writers::put_zeros;
+use encoder::split::signed_of;
 use numbers::imm::parse_imm;
 use numbers::imm::parse_imm64;
 use numbers::ints::Imm64;
@@ -37,7 +38,9 @@ ghost use mathlib.Core.Option.{some};
 ghost use mathlib.Core.List.{List, _++_};
 ghost use Prim.Native.Nat.{ℕ, _≤_};
 ghost use lib.ListN.{length, drop};
+ghost use lib.IntN.{pos};
 ghost use Rattle.numbers.specs.Results.{mapped};
+ghost use Rattle.numbers.specs.Numbers.{imm64Of};
 ghost use Rattle.numbers.specs.code.Spans.{spanned};
 ghost use Rattle.numbers.specs.Literals.{stringOf};
 ghost use Rattle.numbers.specs.code.Meanings.{imm64Value};
@@ -89,6 +92,18 @@ impl Width {
             Width::Half => widened(parse_imm(s)),
             Width::Word => widened(parse_imm(s)),
             Width::Dword => parse_imm64(s),
+        }
+    }
+
+    // What this width reads where v stands: but for `.dword`, the upper half of 32 bits is negative.
+    fn signed(self, v: u32) -> i64
+        ensures { λ r. ⌜ ((s : List ℕ) → imm64Of s ≡ some (pos v) → readAt self s ≡ some r) ⌝ }
+    {
+        match self {
+            Width::Byte => signed_of(v) as i64,
+            Width::Half => signed_of(v) as i64,
+            Width::Word => signed_of(v) as i64,
+            Width::Dword => v as i64,
         }
     }
 
@@ -313,7 +328,7 @@ fn next_number(text: &[u8], width: Width, part: Span, at: usize) -> Next
 {
     let bytes = span_bytes(text, part);
     if let Short::Is(v, after) = short_number(bytes, at) {
-        return next_of(number_write(width, v as i64), after);
+        return next_of(number_write(width, width.signed(v)), after);
     }
     let Operand::At(operand, after) = operand_at(bytes, at) else {
         return Next::End;

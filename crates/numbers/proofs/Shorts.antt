@@ -28,7 +28,7 @@ use Rattle.numbers.proofs.Bools.{none-some, and-left, and-right, or-lef
 use Rattle.numbers.proofs.Prefixes.{prefix-splits, two-bytes}
 use Rattle.numbers.proofs.Places.{index-within, before-length}
 use Rattle.numbers.proofs.Parts.{partSpan, part-text}
-use Rattle.numbers.proofs.Values.{digit-more, digits-within, digits-start, digits-all, digits-end}
+use Rattle.numbers.proofs.Values.{digit-more, digits-start, digits-all, digits-end}
 use Rattle.numbers.proofs.Readings.{digits-larger}
 use Rattle.numbers.proofs.SpacedNumbers.{number-stays}
 
@@ -51,9 +51,9 @@ blank-more s at h e =
     let d : drop at s ≡ 32 ∷ drop (at + 1) s = rw (add-one at, drop-cons s at 0 h, e) refl in
     rw (le-leb (at + 1) (length s) (omega arith), le-leb at (length s) (omega arith), d) (blank-first at (drop (at + 1) s))
 
--- a value that may have a digit more stays below 2^31 with it
-pub more-small : (base v d : ℕ) → base ≤ 16 → v ≤ 134217727 → d < base → v * base + d < 2 ^ 31
-more-small base v d b h k = let m : v * base ≤ 134217727 * 16 = mul-le-mul h b in omega arith
+-- a value that may have a digit more stays below 2^32 with it
+pub more-small : (base v d : ℕ) → base ≤ 16 → v ≤ 268435455 → d < base → v * base + d < 2 ^ 32
+more-small base v d b h k = let m : v * base ≤ 268435455 * 16 = mul-le-mul h b in omega arith
 
 -- the byte at i of s, whose digit is d, after digits of the value v
 module _ (base v : ℕ) (s : List ℕ) (i d : ℕ) (b : base ≤ 16) (h : i < length s) (e : d ≡ digitOf (getD s i 0)) (k : d < base) where
@@ -75,8 +75,8 @@ comma-after b i first e =
 
 -- the comma or the end stands at i, and the text from first on is digits up to there
 pub run-end : (base : ℕ) (s : List ℕ) (first v i : ℕ) → first < i → i + indexOf (byte ",") (drop i s) ≡ first + indexOf (byte ",") (drop first s)
-    → indexOf (byte ",") (drop i s) ≡ 0 → v < 2 ^ 31
-    → digitsFrom base (2 ^ 31 - 1) v (before (byte ",") (drop i s)) ≡ digitsFrom base (2 ^ 31 - 1) 0 (before (byte ",") (drop first s))
+    → indexOf (byte ",") (drop i s) ≡ 0 → v < 2 ^ 32
+    → digitsFrom base (2 ^ 32 - 1) v (before (byte ",") (drop i s)) ≡ digitsFrom base (2 ^ 32 - 1) 0 (before (byte ",") (drop first s))
     → DigitsMean base s first v (i + 1)
 unfolding before
 run-end base s first v i f p z h e =
@@ -146,31 +146,29 @@ plain-digits s (Value z) e = go (digitsOf 10 (2 ^ 63 - 1) s) refl e
         read-alone s z (plain .0 ∙ sym e) (plain .1)
 
 -- an operand that is a number
-short-at : (s : List ℕ) (at v next : ℕ) → at ≤ length s → v < 2 ^ 31 → next ≡ suc (at + indexOf (byte ",") (drop at s))
+short-at : (s : List ℕ) (at v next : ℕ) → at ≤ length s → next ≡ suc (at + indexOf (byte ",") (drop at s))
     → outerSigned (before (byte ",") (drop at s)) ≡ some (pos v) → startsWith (text "'") (before (byte ",") (drop at s)) ≡ false
     → ShortMeans s at v next
 unfolding operandAt
-short-at s at v next h small e reads quote =
+short-at s at v next h e reads quote =
     let part = before (byte ",") (drop at s) in
     record {
       operand = partSpan s at;
       found = rw (le-leb at (length s) h, e) refl;
       reads = rw (part-text s at, number-stays part (pos v) reads) (read-alone part (pos v) reads quote .imm);
-      small = small;
     }
 
--- digits up to the comma have a value below the limit, and stand within the text
-run-bounds : (base : ℕ) (s : List ℕ) (first v next : ℕ) → DigitsMean base s first v next → (first ≤ length s) × (v < 2 ^ 31)
-run-bounds base s first v next m =
+-- digits up to the comma stand within the text
+run-within : (base : ℕ) (s : List ℕ) (first v next : ℕ) → DigitsMean base s first v next → first ≤ length s
+run-within base s first v next m =
     let bytes = digits-all base _ _ v (m .value) .0 in
-    (omega (arith, before-length (byte ",") (drop first s), index-within (byte ",") (drop first s), length-drop first s), omega (arith, digits-within base _ _ v (m .value)))
+    omega (arith, before-length (byte ",") (drop first s), index-within (byte ",") (drop first s), length-drop first s)
 
 -- decimal digits up to the comma are the operand
 decimal-number : (s : List ℕ) (at v next : ℕ) → DigitsMean 10 s at v next → ShortMeans s at v next
 decimal-number s at v next m =
-    let bounds = run-bounds 10 s at v next m in
     let plain = decimal-plain (before (byte ",") (drop at s)) (digits-all 10 _ _ v (m .value) .1) in
-    short-at s at v next (bounds .0) (bounds .1) (m .after) (plain .0 ∙ ap positiveOf (digits-larger 10 _ (2 ^ 63 - 1) _ v (omega arith) (m .value))) (plain .1)
+    short-at s at v next (run-within 10 s at v next m) (m .after) (plain .0 ∙ ap positiveOf (digits-larger 10 _ (2 ^ 63 - 1) _ v (omega arith) (m .value))) (plain .1)
 
 -- the two bytes of `0x` at a place
 pub hex-bytes : (s : List ℕ) (at : ℕ) → at + 2 ≤ length s → startsWith (text "0x") (drop at s) ≡ eqb (getD s at 0) 48 && eqb (getD s (at + 1) 0) 120
@@ -186,16 +184,15 @@ hex-part s at h = rw (prefix-splits (text "0x") (drop at s) h, drop-drop 2 at s)
 hex-number : (s : List ℕ) (at v next : ℕ) → startsWith (text "0x") (drop at s) ≡ true → DigitsMean 16 s (at + 2) v next → ShortMeans s at v next
 unfolding startsWith
 hex-number s at v next h m =
-    let bounds = run-bounds 16 s (at + 2) v next m in
     let part = hex-part s at h in
     let plain = hex-plain (before (byte ",") (drop (at + 2) s)) (digits-all 16 _ _ v (m .value) .1) in
-    short-at s at v next (omega arith) (bounds .1) (omega (arith, m .after))
+    short-at s at v next (omega (arith, run-within 16 s (at + 2) v next m)) (omega (arith, m .after))
     (rw (part .0) (plain ∙ ap positiveOf (digits-larger 16 _ (2 ^ 63 - 1) _ v (omega arith) (m .value))))
     (rw (part .0) refl)
 
 -- the operand after the blanks is the operand
 later : (s : List ℕ) (at first v next : ℕ) → operandAt s first ≡ operandAt s at → ShortMeans s first v next → ShortMeans s at v next
-later s at first v next e m = record { operand = m .operand; found = sym e ∙ m .found; reads = m .reads; small = m .small }
+later s at first v next e m = record { operand = m .operand; found = sym e ∙ m .found; reads = m .reads }
 
 -- the code's two answers
 module _ (s : List ℕ) (at first : ℕ) (e : operandAt s first ≡ operandAt s at) where

@@ -28,7 +28,7 @@ fn after_blanks(s: &[u8], at: usize) -> usize
     i
 }
 
-// Digits from a place on, and then a comma or the end. A value up to 2^27 - 1 stays below 2^31 with one digit more.
+// Digits from a place on, and then a comma or the end. A value up to 2^28 - 1 stays below 2^32 with one digit more.
 fn digits_at(s: &[u8], first: usize, radix: Radix) -> Short
     ensures { λ r. ⌜ DigitsOf (baseOf radix) (now (s .entry)) first r ⌝ }
 {
@@ -44,7 +44,7 @@ fn digits_at(s: &[u8], first: usize, radix: Radix) -> Short
             }
             return Short::Is(value as u32, i + 1);
         }
-        if 134217727 < value {
+        if 268435455 < value {
             return Short::No;
         }
         value = value * base + d;
@@ -69,8 +69,8 @@ fn hex_at(s: &[u8], at: usize) -> bool
     (s[at] == b'0') & (s[at + 1] == b'x')
 }
 
-// Blanks, decimal digits or `0x` and hexadecimal ones, then a comma or the end: numbers below 2^31, among them all of nine decimal
-// or seven hexadecimal digits. All else goes the general way.
+// Blanks, decimal digits or `0x` and hexadecimal ones, then a comma or the end: numbers below 2^32, among them all of nine decimal
+// or eight hexadecimal digits. All else goes the general way.
 pub fn short_number(s: &[u8], at: usize) -> Short
     ensures { λ r. ⌜ ShortOf (now (s .entry)) at r ⌝ }
 {

@@ -1,6 +1,5 @@
 -- `data::next_number`: a short number, or the operand at a place, by its own span in the text.
 use mathlib.Core.Path.{_≡_, sym, _∙_}
-use lib.IntN.{pos}
 use mir.Syntax.{w64}
 use mir.Val.{SFits}
 use mir.Facts.{toZ-ofZ}
@@ -16,15 +15,18 @@ use Rattle.layout.proofs.data.next_number.Tie as tie
 returns : tie.Need-returns
 returns c =
     let at-number-write = c .before in
-    let at-v = at-number-write .before .before in
+    let at-signed = at-number-write .before in
+    let at-v = at-signed .before .before in
     let at-short-number = at-v .before .before in
     let start = at-short-number .before .before .before in
     let t = now (start .args .text) in
-    let f : SFits w64 (pos (at-v .v .given .0 .0)) = search needs in
+    let z = at-signed .signed .result in
+    let f : SFits w64 z = search needs in
     let short = rw (at-short-number .before .span-bytes .ensures, at-v .v .given .1) at (at-short-number .short-number .ensures) in
-    let is = rw (toZ-ofZ f) at (at-number-write .number-write .ensures t (spanned (spanned t (start .args .part)) (short .operand))) in
+    let operand = spanned (spanned t (start .args .part)) (short .operand) in
+    let is = rw (toZ-ofZ f) at (at-number-write .number-write .ensures t operand) in
     rw (c .next-of .ensures)
-    (short-first _ _ _ _ _ short (start .args .width) (at-number-write .number-write .result) (is .0) (is .1))
+    (short-first _ _ _ _ _ short (start .args .width) z (at-number-write .number-write .result) (at-signed .signed .ensures operand (short .reads)) (is .0) (is .1))
 
 -- the operand that is found
 found : (d : tie.After-known-told2)
@@ -68,7 +70,7 @@ next-number-spec =
     (λ c κs. search needs)  -- span-bytes-requires
     (λ c κs. search needs)  -- short-number-requires
     (λ c. search needs)  -- enum-known-v
-    (λ c. search needs)  -- cast-number-write
+    (λ c κs. search needs)  -- signed-requires
     (λ c κs. search needs)  -- number-write-requires
     (λ c κs. search needs)  -- next-of-requires
     returns
