@@ -7,7 +7,7 @@ use mathlib.Core.Path.{_≡_, refl, sym, ap, ap₂, _∙_}
 use mathlib.Core.List.{List, [], _∷_, _++_, append-assoc, append-nil}
 use lib.ListN.{length, take, drop, getD, set, replicate, length-append, length-drop, length-replicate, drop-of-length-le}
 use lib.Arith.{mod-mul}
-use lib.Seq.{take-all, take-at, drop-at, take-suc, drop-cons, drop-drop, take-append-le, drop-append-le, drop-append-add, set-at, length-take-le, append-snoc}
+use lib.Seq.{take-all, take-at, drop-at, take-suc, drop-cons, drop-drop, take-append-le, drop-append-le, drop-append-add, set-at, sets-eq, length-take-le, append-snoc}
 use Rattle.layout.specs.Bytes.{le, put, padded}
 use Rattle.layout.specs.Records.{leValue}
 
@@ -111,6 +111,26 @@ le-more : (w v : ℕ) → le (suc w) v ≡ le w v ++ (v / 256 ^ w % 256 ∷ [])
 unfolding le
 le-more zero v = rw (div-one v)
 le-more (suc w) v = ap (λ (bs : List ℕ). v % 256 ∷ bs) (le-more w (v / 256) ∙ rw (high w v))
+
+-- the low bytes are those of the low part
+le-low : (w v : ℕ) → le w (v % 256 ^ w) ≡ le w v
+unfolding le
+le-low zero v = refl
+le-low (suc w) v =
+    let split : v % 256 ^ suc w ≡ (v / 256 % 256 ^ w) * 256 + v % 256 =
+    rw (pow-suc 256 w) (mod-mul v {m = 256 ^ w} {c = 256} (one-le-pow w 256 (omega arith)) (omega arith)) in
+    let first : v % 256 ^ suc w % 256 ≡ v % 256 = omega (arith, split) in
+    let rest : v % 256 ^ suc w / 256 ≡ v / 256 % 256 ^ w = omega (arith, split) in
+    rw (first, rest) (ap (λ (bs : List ℕ). v % 256 ∷ bs) (le-low w (v / 256)))
+
+-- what storing the low byte, or the four low ones, leaves
+pub stored-one : (v : ℕ) (dst : List ℕ) → 1 ≤ length dst → set dst 0 (v % 256) ≡ le 1 v ++ drop 1 dst
+unfolding le
+stored-one v dst h = sets-eq (v % 256 ∷ []) dst 0 h
+
+pub stored-four : (v : ℕ) (dst : List ℕ) → put 0 (le 4 (v % 2 ^ 32)) dst ≡ le 4 v ++ drop 4 dst
+unfolding le
+stored-four v dst = ap (λ (bs : List ℕ). put 0 bs dst) (le-low 4 v)
 
 -- what a loop that stores v from its low byte on leaves, turn by turn
 pub stored-more : (v i left : ℕ) (dst : List ℕ) → left ≡ v / 256 ^ i → i < length dst → set (le i v ++ drop i dst) i (left % 256) ≡ le (i + 1) v ++ drop (i + 1) dst

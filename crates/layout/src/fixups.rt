@@ -2,7 +2,7 @@
 use crate::addresses::Address;
 use crate::addresses::label_address;
 use crate::records::get_label_word;
-use crate::records::put_u32;
+use crate::writers::put_u32;
 use numbers::text::Span;
 use numbers::text::span_bytes;
 ghost use Rattle.layout.specs.code.Placed.{FillReady, Fills};

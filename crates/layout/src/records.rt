@@ -5,6 +5,7 @@ use crate::limits::ITEM_SIZE;
 use crate::limits::LABEL_SIZE;
 use crate::limits::LABEL_WORD_SIZE;
 use crate::writers::put_number;
+use crate::writers::put_u32;
 use numbers::ints::bits_of_i64;
 use numbers::ints::i64_of_bits;
 ghost use mathlib.Core.Path.{_≡_};
@@ -61,19 +62,6 @@ pub struct LabelWordRecord {
     pub start: u32,
     pub len: u32,
     pub line: u32,
-}
-
-pub fn put_u32(buf: &mut [u8], at: usize, v: u32)
-    requires { ⌜ at + 4 ≤ length (now buf) ⌝ }
-    ensures { λ _. ⌜ now (buf .exit) ≡ put at (le 4 v) (now (buf .entry)) ⌝ }
-{
-    let second = v / 256;
-    let third = second / 256;
-    let fourth = third / 256;
-    buf[at] = (v % 256) as u8;
-    buf[at + 1] = (second % 256) as u8;
-    buf[at + 2] = (third % 256) as u8;
-    buf[at + 3] = (fourth % 256) as u8;
 }
 
 pub fn get_u32(buf: &[u8], at: usize) -> u32

@@ -1,13 +1,13 @@
--- `writers::put_number`: the invariant says that the low i bytes are stored, and that what is left is v without them.
+-- `writers::put_number`: one byte, four, or a loop whose invariant says that the low i bytes are stored, and that what is left is v without them.
 use borrow.Author.Needs.{needs}
-use mathlib.Core.Path.{_≡_, refl, sym}
+use mathlib.Core.Path.{_≡_, refl, sym, _∙_}
 use mathlib.Core.List.{_++_}
 use Prim.Native.Nat.{_-_, _/_, _^_, _≤_}
 use native.Mathlib.Nat.{div-one}
 use native.Mathlib.Omega.{arith}
 use lib.ListN.{length, drop, length-set}
 use Rattle.layout.specs.Bytes.{le}
-use Rattle.layout.proofs.ByteLaws.{stored-more, left-more}
+use Rattle.layout.proofs.ByteLaws.{stored-one, stored-four, stored-more, left-more}
 use Rattle.layout.proofs.writers.put_number.Statement.{statement}
 use Rattle.layout.proofs.writers.put_number.Tie as tie
 
@@ -17,39 +17,34 @@ Inv-loop dst₀ width v left₀ i₀ dst left i = (i ≤ width) × (length dst �
 abbrev μ-loop : tie.MeasureT-loop
 μ-loop dst₀ width v left₀ i₀ dst left i = width - i
 
+returns : tie.Need-returns Inv-loop μ-loop
+returns c = rw (c .if1 .taken) (stored-one (c .before .before .args .v) (c .before .before .args .dst .now) (omega (arith, c .if1 .taken, c .before .before .pre)))
+
+returns-2 : tie.Need-returns-2 Inv-loop μ-loop
+returns-2 c =
+    let put = c .before .before in
+    let then = put .before .before in
+    let start = then .before .before .before in
+    rw (then .if2 .taken) (put .put-u32 .ensures ∙ stored-four (start .args .v) (start .args .dst .now))
+
 loop-holds : tie.Need-loop-holds Inv-loop μ-loop
 unfolding le
 loop-holds c = (omega arith, refl, sym (div-one _), refl)
 
-cast-dst : tie.Need-cast-dst Inv-loop μ-loop
-cast-dst c = search needs
-
-slice-write-dst : tie.Need-slice-write-dst Inv-loop μ-loop
-slice-write-dst c = search needs
-
-add-i : tie.Need-add-i Inv-loop μ-loop
-add-i c = search needs
-
-loop-less : tie.Need-loop-less Inv-loop μ-loop
-loop-less c = search needs
-
 loop-again : tie.Need-loop-again Inv-loop μ-loop
 loop-again c =
     let l = c .before .loop in
-    let a = c .before .before .args in (
+    let a = c .before .before .before .before .before .args in (
       omega arith,
       simp length-set (l .inv .1),
       left-more (a .v) (l .i) (l .left) (l .inv .2),
       rw (l .inv .3) (stored-more (a .v) (l .i) (l .left) (a .dst .now) (l .inv .2) (omega arith)),
     )
 
-same-length : tie.Need-same-length Inv-loop μ-loop
-same-length c = search needs
-
-returns : tie.Need-returns Inv-loop μ-loop
-returns c =
+returns-3 : tie.Need-returns-3 Inv-loop μ-loop
+returns-3 c =
     let l = c .before .loop in
-    let e : l .i ≡ c .before .before .args .width = omega arith in
+    let e : l .i ≡ c .before .before .before .before .before .args .width = omega arith in
     rw (← e) (l .inv .3)
 
 pub put-number-spec : {M : Type 1} → statement M
@@ -58,11 +53,19 @@ put-number-spec =
     (tie.spec
     Inv-loop
     μ-loop
+    (λ c. search needs)  -- cast-dst
+    (λ c. search needs)  -- slice-write-dst
+    (λ c. search needs)  -- same-length
+    returns
+    (λ c. search needs)  -- cast-put-u32
+    (λ c κs. search needs)  -- put-u32-requires
+    (λ c. search needs)  -- same-length-2
+    returns-2
     loop-holds
-    cast-dst
-    slice-write-dst
-    add-i
-    loop-less
+    (λ c. search needs)  -- cast-dst-2
+    (λ c. search needs)  -- slice-write-dst-2
+    (λ c. search needs)  -- add-i
+    (λ c. search needs)  -- loop-less
     loop-again
-    same-length
-    returns)
+    (λ c. search needs)  -- same-length-3
+    returns-3)

@@ -1,12 +1,12 @@
--- `records::put_u32`: four stores in a row are one store of the number's four bytes.
+-- `writers::put_u32`: four stores in a row are one store of the number's four bytes.
 use borrow.Author.Needs.{needs}
 use native.Mathlib.Omega.{arith}
 use native.Mathlib.Numerals.{add-one, add-two, add-three}
 use lib.ListN.{length-set}
 use lib.Seq.{sets-eq}
 use Rattle.layout.specs.Bytes.{le}
-use Rattle.layout.proofs.records.put_u32.Statement.{statement}
-use Rattle.layout.proofs.records.put_u32.Tie as tie
+use Rattle.layout.proofs.writers.put_u32.Statement.{statement}
+use Rattle.layout.proofs.writers.put_u32.Tie as tie
 
 slice-write-buf-2 : tie.Need-slice-write-buf-2
 slice-write-buf-2 c = simp length-set (omega arith)
