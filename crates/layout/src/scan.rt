@@ -3,7 +3,7 @@ use crate::limits::least;
 use numbers::text::Span;
 use numbers::text::find_far;
 use numbers::text::in_sixteen;
-use numbers::text::trim_span;
+use numbers::text::trim_span_far;
 ghost use mathlib.Core.Path.{_≡_};
 ghost use Prim.Native.Nat.{_+_, _*_, _/_, _≤_};
 ghost use lib.Dec.{ltb};
@@ -118,7 +118,7 @@ pub fn cut_line(text: &[u8], at: usize) -> Cut
     let mark = cut_from(text, at);
     let stop = stop_from(text, mark);
     let end = end_from(text, stop);
-    let inner = trim_span(&text[at..stop]);
+    let inner = trim_span_far(&text[at..stop]);
     let start = at + inner.start;
     let len = inner.len;
     Cut {

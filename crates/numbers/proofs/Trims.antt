@@ -1,6 +1,6 @@
 -- White space, trimming and spans: what the definitions give from a place on, and what trimming leaves.
 use Prim.Native.Nat.{ℕ, zero, suc, _+_, _-_, _≤_, _<_}
-use native.Mathlib.Nat.{not-suc-le-zero, le-of-eq}
+use native.Mathlib.Nat.{not-suc-le-zero, le-of-suc-le-suc, le-of-eq}
 use mathlib.Core.Path.{_≡_, refl, sym, _∙_, ap}
 use mathlib.Core.List.{List, [], _∷_, _++_}
 use mathlib.Core.Bool.{Bool, true, false, cond}
@@ -91,6 +91,18 @@ leading-within test (x ∷ xs) = go (test x) (leading-within test xs)
     go : (t : Bool) → leading test xs ≤ length xs → cond t (suc (leading test xs)) 0 ≤ suc (length xs)
     go true h = omega arith
     go false h = omega arith
+
+-- from a place on before which every byte meets it
+pub leading-from : (test : ℕ → Bool) (n : ℕ) (s : List ℕ) → n ≤ leading test s → n + leading test (drop n s) ≡ leading test s
+unfolding leading
+leading-from test zero s h = omega arith
+leading-from test (suc n) [] h = absurd (not-suc-le-zero h)
+leading-from test (suc n) (x ∷ xs) h = go (test x) (leading-from test n xs) h
+  where
+    go : (t : Bool) → (n ≤ leading test xs → n + leading test (drop n xs) ≡ leading test xs) → suc n ≤ cond t (suc (leading test xs)) 0
+        → suc n + leading test (drop n xs) ≡ cond t (suc (leading test xs)) 0
+    go true ih k = omega (arith, ih (le-of-suc-le-suc k))
+    go false ih k = absurd (not-suc-le-zero k)
 
 -- trimming at the end takes from the start
 pub take-trim-end : (s : List ℕ) → take (length (trimEnd s)) s ≡ trimEnd s

@@ -2,7 +2,7 @@
 ghost use mathlib.Core.Path.{_≡_};
 ghost use Prim.Native.Nat.{_+_, _*_, _/_, _≤_, _<_};
 ghost use mathlib.Core.List.{[], _∷_, _++_};
-ghost use lib.Dec.{ltb};
+ghost use lib.Dec.{leb, ltb};
 ghost use lib.ListN.{length, drop};
 ghost use Rattle.numbers.specs.Text.{isSpace, trimEnd, trimmed, indexOf, before, uncommented};
 ghost use Rattle.numbers.specs.Text.{leadingSpaces};
@@ -50,13 +50,70 @@ pub fn trim_end_len(s: &[u8]) -> usize
     i
 }
 
+// Are all four bytes from a place on white space?
+fn spaces_in_four(s: &[u8], at: usize) -> bool
+    requires { ⌜ at + 4 ≤ length (now s) ⌝ }
+    ensures { λ r. ⌜ r ≡ leb 4 (leadingSpaces (drop at (now (s .entry)))) ⌝ }
+{
+    (is_space(s[at]) & is_space(s[at + 1])) & (is_space(s[at + 2]) & is_space(s[at + 3]))
+}
+
+// Are all sixteen? No branch stands between the comparisons, as in `in_sixteen`.
+fn spaces_in_sixteen(s: &[u8], at: usize) -> bool
+    requires { ⌜ at + 16 ≤ length (now s) ⌝ }
+    ensures { λ r. ⌜ r ≡ leb 16 (leadingSpaces (drop at (now (s .entry)))) ⌝ }
+{
+    (spaces_in_four(s, at) & spaces_in_four(s, at + 4))
+        & (spaces_in_four(s, at + 8) & spaces_in_four(s, at + 12))
+}
+
+// How many bytes of white space s begins with, in whole blocks of sixteen.
+fn space_blocks(s: &[u8]) -> usize
+    ensures { λ r. ⌜ r ≡ leadingSpaces (now (s .entry)) / 16 * 16 ⌝ }
+{
+    let mut i = 0;
+    while 16 <= s.len() - i {
+        if !spaces_in_sixteen(s, i) {
+            return i;
+        }
+        i += 16;
+    }
+    i
+}
+
+// What `leading_spaces` answers, where they may be many.
+fn leading_spaces_far(s: &[u8]) -> usize
+    ensures { λ r. ⌜ r ≡ leadingSpaces (now (s .entry)) ⌝ }
+{
+    let from = space_blocks(s);
+    from + leading_spaces(&s[from..])
+}
+
+// What `trim_span` answers, where the white space at the start is known.
+fn trim_span_from(s: &[u8], start: usize) -> Span
+    requires { ⌜ start ≡ leadingSpaces (now s) ⌝ }
+    ensures { λ r. ⌜ r ≡ trimSpan (now (s .entry)) ⌝ }
+{
+    let len = trim_end_len(&s[start..]);
+    Span { start, len }
+}
+
 // Where s stands without the white space at both ends.
 pub fn trim_span(s: &[u8]) -> Span
     ensures { λ r. ⌜ r ≡ trimSpan (now (s .entry)) ⌝ }
 {
-    let start = leading_spaces(s);
-    let len = trim_end_len(&s[start..]);
-    Span { start, len }
+    trim_span_from(s, leading_spaces(s))
+}
+
+// What `trim_span` answers, where the white space at the start may be long. A short text is trimmed byte by byte: blocks
+// would cost it more than they save.
+pub fn trim_span_far(s: &[u8]) -> Span
+    ensures { λ r. ⌜ r ≡ trimSpan (now (s .entry)) ⌝ }
+{
+    if s.len() < 64 {
+        return trim_span(s);
+    }
+    trim_span_from(s, leading_spaces_far(s))
 }
 
 pub fn trim(s: &[u8]) -> &[u8]

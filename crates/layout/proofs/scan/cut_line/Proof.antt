@@ -19,15 +19,15 @@ stop-from-requires c κs =
 end-from-requires : tie.Need-end-from-requires
 end-from-requires c κs = stop-within _ _ _ _ (c .before .before .before .pre) (c .before .cut-from .ensures) (c .stop-from .ensures)
 
-part-trim-span-end : tie.Need-part-trim-span-end
-part-trim-span-end c =
+part-trim-span-far-end : tie.Need-part-trim-span-far-end
+part-trim-span-far-end c =
     let h = stop-within _ _ _ _ (c .before .before .before .before .pre) (c .before .before .cut-from .ensures) (c .before .stop-from .ensures) in
     search needs
 
-start : (d : tie.After-struct-known) → d .before .before .before .before .before .before .before .args .at + d .before .trim-span .result .start ≤ d .before .before .before .before .before .cut-from .result
+start : (d : tie.After-struct-known) → d .before .before .before .before .before .before .before .args .at + d .before .trim-span-far .result .start ≤ d .before .before .before .before .before .cut-from .result
 start d =
     let s = d .before .before .before .before in
-    start-within _ _ _ _ (s .before .before .before .pre) (s .before .cut-from .ensures) (s .stop-from .ensures) _ (d .before .trim-span .ensures)
+    start-within _ _ _ _ (s .before .before .before .pre) (s .before .cut-from .ensures) (s .stop-from .ensures) _ (d .before .trim-span-far .ensures)
 
 add-start : tie.Need-add-start
 add-start c = let h = start c in search needs
@@ -39,7 +39,7 @@ returns : tie.Need-returns
 returns c =
     let s = c .before .before .before .before .before in (
       refl,
-      line-cut _ _ _ _ (s .before .before .before .pre) (s .before .cut-from .ensures) (s .stop-from .ensures) _ (c .before .before .trim-span .ensures)
+      line-cut _ _ _ _ (s .before .before .before .pre) (s .before .cut-from .ensures) (s .stop-from .ensures) _ (c .before .before .trim-span-far .ensures)
           _ (c .before .before .before .before .end-from .ensures) _ (c .least .ensures),
     )
 
@@ -50,10 +50,10 @@ cut-line-spec =
     (λ c κs. search needs)  -- cut-from-requires
     stop-from-requires
     end-from-requires
-    (λ c. search needs)  -- sub-trim-span
-    (λ c. search needs)  -- part-trim-span-start
-    part-trim-span-end
-    (λ c κs. search needs)  -- trim-span-requires
+    (λ c. search needs)  -- sub-trim-span-far
+    (λ c. search needs)  -- part-trim-span-far-start
+    part-trim-span-far-end
+    (λ c κs. search needs)  -- trim-span-far-requires
     add-start
     sub-least
     (λ c κs. search needs)  -- least-requires
