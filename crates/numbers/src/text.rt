@@ -81,10 +81,16 @@ fn space_blocks(s: &[u8]) -> usize
     i
 }
 
-// What `leading_spaces` answers, where they may be many.
+// What `leading_spaces` answers, where they may be many. In a short text blocks would cost more than they save.
 fn leading_spaces_far(s: &[u8]) -> usize
     ensures { λ r. ⌜ r ≡ leadingSpaces (now (s .entry)) ⌝ }
 {
+    if s.len() == 0 {
+        return 0;
+    }
+    if s.len() < 64 {
+        return leading_spaces(s);
+    }
     let from = space_blocks(s);
     from + leading_spaces(&s[from..])
 }
@@ -105,14 +111,10 @@ pub fn trim_span(s: &[u8]) -> Span
     trim_span_from(s, leading_spaces(s))
 }
 
-// What `trim_span` answers, where the white space at the start may be long. A short text is trimmed byte by byte: blocks
-// would cost it more than they save.
+// What `trim_span` answers, where the white space at the start may be long.
 pub fn trim_span_far(s: &[u8]) -> Span
     ensures { λ r. ⌜ r ≡ trimSpan (now (s .entry)) ⌝ }
 {
-    if s.len() < 64 {
-        return trim_span(s);
-    }
     trim_span_from(s, leading_spaces_far(s))
 }
 
