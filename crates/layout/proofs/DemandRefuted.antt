@@ -57,9 +57,9 @@ abbrev ownWith : Section → List ItemLine → ℕ → List ℕ → List LabelWo
 ownWith s items words bytes labelWords =
     record { section = s; items = record { list = items; words = words }; stored = record { bytes = bytes; labelWords = labelWords }; bss = 0 }
 
--- nothing but equates, and labels
+-- before any item, data or bss
 abbrev noneOwn : Own
-noneOwn = ownWith section.Text [] 0 [] []
+noneOwn = start .rest .own
 
 abbrev layoutWith : List ℕ → List ℕ → List LabelAt → List EquateAt → List ItemAt → ℕ → Layout
 layoutWith words bytes labels equates items n =
@@ -137,22 +137,26 @@ pub round-made-up : (x : Answer) → Claims two (twoLayout (pos 6) 1 2) x → De
 unfolding computing namesIn largest
 round-made-up x c d = let e : _≡_ {A = ℕ} 1 2 = two-holds (pos 6) 1 2 x c d .equates .0 .round in omega arith
 
--- ---- `t: .byte 7` in data: a label one word off
+-- ---- `t` at the start of the data: a label, and a label word of it, one word off
+
+abbrev label : Label
+label = record { name = piece 6 (text "t"); place = record { section = section.Data; offset = 0 }; line = 1 }
+
+abbrev labelAt : ℕ → LabelAt
+labelAt n = record { name = piece 6 (text "t"); address = n; line = 1 }
 
 abbrev lettered : List ℕ
 lettered = text ".data\nt: .byte 7"
 
 abbrev letteredState : State
-letteredState =
-    stateWith (record { name = piece 6 (text "t"); place = record { section = section.Data; offset = 0 }; line = 1 } ∷ []) []
-    (ownWith section.Data [] 0 (7 ∷ []) [])
+letteredState = stateWith (label ∷ []) [] (ownWith section.Data [] 0 (7 ∷ []) [])
 
 lettered-says : Says lettered letteredState
 unfolding computing
 lettered-says = refl
 
 abbrev letteredLayout : ℕ → Layout
-letteredLayout n = layoutWith [] (7 ∷ []) (record { name = piece 6 (text "t"); address = n; line = 1 } ∷ []) [] [] 0
+letteredLayout n = layoutWith [] (7 ∷ []) (labelAt n ∷ []) [] [] 0
 
 pub label-off : (x : Answer) → Claims lettered (letteredLayout 0x1004) x → Demanded lettered 0 full x → ⊥
 unfolding computing recordedAddress
@@ -161,8 +165,6 @@ label-off x c d =
     some-same (claim-holds lettered letteredState (letteredLayout 0x1004) x lettered-says c d .labels (text "t")) in
     omega arith
 
--- ---- `t: .word t` in data: a label word one word off
-
 abbrev pointing : List ℕ
 pointing = text ".data\nt: .word t"
 
@@ -170,16 +172,14 @@ abbrev labelWord : LabelWord
 labelWord = record { at = 0; name = text "t"; line = 1 }
 
 abbrev pointingState : State
-pointingState =
-    stateWith (record { name = piece 6 (text "t"); place = record { section = section.Data; offset = 0 }; line = 1 } ∷ []) []
-    (ownWith section.Data [] 0 (0 ∷ 0 ∷ 0 ∷ 0 ∷ []) (labelWord ∷ []))
+pointingState = stateWith (label ∷ []) [] (ownWith section.Data [] 0 (0 ∷ 0 ∷ 0 ∷ 0 ∷ []) (labelWord ∷ []))
 
 pointing-says : Says pointing pointingState
 unfolding computing
 pointing-says = refl
 
 abbrev pointingLayout : ℕ → Layout
-pointingLayout n = layoutWith [] (le 4 n) (record { name = piece 6 (text "t"); address = 0x1000; line = 1 } ∷ []) [] [] 0
+pointingLayout n = layoutWith [] (le 4 n) (labelAt 0x1000 ∷ []) [] [] 0
 
 pub label-word-off : (x : Answer) → Claims pointing (pointingLayout 0x1004) x → Demanded pointing 0 full x → ⊥
 unfolding computing recordedAddress

@@ -115,20 +115,20 @@ abbrev pub readsByte : ℕ → List Instruction
 readsByte n = Addi a7 x0 (pos 1010) ∷ loadPair a0 n ++ Ecall ∷ []
 
 -- one operand, a register, or a label that is no register
-abbrev pub ofRegister : List (List ℕ) → (Register → List Instruction) → Expanded
-ofRegister ops f = oneOperand ops (λ a. onRegister (registerOf a) (λ rd. value (f rd)))
+abbrev registerAlone : List (List ℕ) → (Register → List Instruction) → Expanded
+registerAlone ops f = oneOperand ops (λ a. onRegister (registerOf a) (λ rd. value (f rd)))
 
-abbrev pub ofLabel : (List ℕ → Option ℕ) → List (List ℕ) → (ℕ → List Instruction) → Expanded
-ofLabel label ops f = oneOperand ops (λ a. noRegister (registerOf a) (onLabel (label a) (λ n. value (f n))))
+abbrev labelAlone : (List ℕ → Option ℕ) → List (List ℕ) → (ℕ → List Instruction) → Expanded
+labelAlone label ops f = oneOperand ops (λ a. noRegister (registerOf a) (onLabel (label a) (λ n. value (f n))))
 
 -- what each pseudo stands for, of its operands; `const` gives an equate's value, `label` a label's address
 unfoldable pub expansion : (List ℕ → Option ℤ) → (List ℕ → Option ℕ) → Pseudo → List (List ℕ) → Expanded
 expansion const label Li ops = twoOperands ops (λ a b. onRegister (registerOf a) (λ rd. onNumber (immOf b) b const (liLoad rd)))
 expansion const label La ops = twoOperands ops (λ a b. onRegister (registerOf a) (λ rd. onLabel (label b) (λ n. value (loadPair rd n))))
-expansion const label Push ops = ofRegister ops pushes
-expansion const label Pop ops = ofRegister ops pops
-expansion const label Print ops = ofRegister ops prints
-expansion const label PrintStr ops = ofLabel label ops printsStr
-expansion const label Read ops = ofLabel label ops reads
-expansion const label ReadByte ops = ofLabel label ops readsByte
-expansion const label Random ops = ofRegister ops randoms
+expansion const label Push ops = registerAlone ops pushes
+expansion const label Pop ops = registerAlone ops pops
+expansion const label Print ops = registerAlone ops prints
+expansion const label PrintStr ops = labelAlone label ops printsStr
+expansion const label Read ops = labelAlone label ops reads
+expansion const label ReadByte ops = labelAlone label ops readsByte
+expansion const label Random ops = registerAlone ops randoms

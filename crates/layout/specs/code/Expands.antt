@@ -12,7 +12,6 @@ use Rattle.numbers.specs.declared.ints.Imm.the-variants as imm
 use Rattle.numbers.specs.declared.registers.Register.{Register}
 use Rattle.numbers.specs.Results.{Result, refused, mapped}
 use Rattle.numbers.specs.Text.{oneSpaced}
-use Rattle.numbers.specs.Registers.{registerOf}
 use Rattle.numbers.specs.Operands.{itemOperands}
 use Rattle.numbers.specs.code.Spans.{spanned}
 use Rattle.encoder.specs.declared.instruction.Instruction.{Instruction}
@@ -35,7 +34,7 @@ use Rattle.layout.specs.declared.expansions.Expansion.{Expansion}
 use Rattle.layout.specs.Pseudos.{pseudoOperands, reservedWords, itemKind}
 use Rattle.layout.specs.Addresses.{labelAddress}
 use Rattle.layout.specs.Rounds.{Known, constant}
-use Rattle.layout.specs.Expansions.{Expanded, oneOperand, onRegister, noRegister, onLabel, expansion}
+use Rattle.layout.specs.Expansions.{Expanded, expansion}
 use Rattle.layout.specs.Layouts.{emission}
 use Rattle.layout.specs.code.Steps.{Agrees}
 use Rattle.layout.specs.code.Stands.{countOf}
