@@ -19,7 +19,7 @@ use Rattle.layout.specs.declared.stage.Stage.the-variants as stage
 use Rattle.layout.specs.declared.assembler.Bytes.the-variants as bytes
 use Rattle.layout.specs.Refusals.{Refusal}
 use Rattle.layout.specs.Bytes.{padded, together}
-use Rattle.layout.specs.Limits.{baseLimit, textLimit, labelSize, Lent, roomOf}
+use Rattle.layout.specs.Limits.{baseLimit, textLimit, dataLimit, labelSize, Lent, roomOf}
 use Rattle.layout.specs.Pieces.{lines, linePieces}
 use Rattle.layout.specs.Stage.{lineStage}
 use Rattle.layout.specs.Demands.{Demanded}
@@ -35,14 +35,15 @@ use Rattle.layout.specs.code.Checks.{BytesAgree}
 use Rattle.layout.specs.code.Placed.{StartsAt}
 use Rattle.layout.specs.code.Names.{Scope, knownFields}
 use Rattle.layout.specs.code.Orders.{LabelTable}
-use Rattle.layout.specs.code.Symbols.{SymbolsStand, Symbols, symbolsOf, SymbolsLeft, SymbolsAgree}
+use Rattle.layout.specs.code.Symbols.{SymbolsStand, Symbols, symbolsOf, SymbolsFound, SymbolsAgree}
 use Rattle.layout.specs.code.Emits.{Unemitted, emittedIn, EmitLeft, EmitAgrees}
-use Rattle.layout.specs.code.Calls.{buffers, lengths, answerIn, refusedAnswer, LaidLeft, LaidAgrees, linesOf, LinesRead}
+use Rattle.layout.specs.code.Calls.{buffers, lengths, answerIn, refusedAnswer, LaidLeft, LaidAgrees, linesOf, LinesRead, ResolvedRead}
 use Rattle.layout.specs.Calls.{Assembled}
 use Rattle.numbers.proofs.Bools.{none-some}
 use Rattle.layout.proofs.Gives.{Comes}
 use borrow.Author.Tests.{lt-ltb, le-ltb}
 use Rattle.layout.proofs.TurnLaws.{start-stands}
+use Rattle.layout.proofs.SymbolLaws.{symbols-starts}
 use Rattle.layout.proofs.HeldLaws.{demanded}
 use Rattle.layout.proofs.ResultLaws.{refused-value, value-same}
 use Rattle.layout.proofs.IndexLaws.{indexed-none}
@@ -101,21 +102,20 @@ module _ {t : List ℕ} {base : ℕ} {st : Counters} {l n e x i d lw w : List �
         waits-room = omega (arith, length-replicate {A = ℕ} 256 0);
       }
 
-  pub few-labels : st .labels * labelSize ≤ 16384
-  few-labels = omega (arith, s .stands .labels .counted, s .stands .labels .fits .few, s .stands .labels .limit)
+  -- what the sections' starts ask
+  pub starts-ready : (base ≤ baseLimit) × (st .rest .own .stored .bytes ≤ dataLimit)
+  starts-ready = let stored = s .stands .rest .own .stored in (s .base-limit, omega (arith, stored .counted, stored .fits .room, stored .limit))
 
-  -- what the rest asks of a stage that is through
+  -- the label words' table has room for every label's record
+  pub order-room : st .labels * labelSize ≤ length lw
+  order-room = omega (arith, s .stands .labels .counted, s .stands .labels .fits .few, s .stands .labels .limit, s .stands .rest .own .stored .labelWords .room)
+
   module _ (l′ e′ ix d′ : List ℕ) (m : ℕ) where
-    -- the symbols that it left
-    pub record Left : Type 0 where
-      pub symbols : Symbols
-      pub are : symbolsOf base σ ≡ value symbols
-      pub left : SymbolsLeft t base σ st l′ n e′ ix d′ m symbols
-
-    pub symbols-through : SymbolsAgree t base σ st l′ n e′ ix d′ (resolved.Through m) (symbolsOf base σ) → Left
+    pub symbols-through : SymbolsAgree t base σ st l′ n e′ ix d′ (resolved.Through m) (symbolsOf base σ) → SymbolsFound t base σ st l′ n e′ ix d′ m
     symbols-through a = by (symbolsOf base σ) refl a
       where
-        by : (o : Result Refusal Symbols) → symbolsOf base σ ≡ o → SymbolsAgree t base σ st l′ n e′ ix d′ (resolved.Through m) o → Left
+        by : (o : Result Refusal Symbols) → symbolsOf base σ ≡ o → SymbolsAgree t base σ st l′ n e′ ix d′ (resolved.Through m) o
+            → SymbolsFound t base σ st l′ n e′ ix d′ m
         by (value y) q b = record { symbols = y; are = q; left = b }
         by (refused r) q b = absurd b
 
@@ -128,110 +128,129 @@ module _ {t : List ℕ} {base : ℕ} {st : Counters} {l n e x i d lw w : List �
         by (value y) q = absurd q
         by (refused z) q = q
 
-    module _ (y : Left) (starts : Starts) (at : StartsAt starts base σ) where
-      abbrev scope : Scope
-      scope = record { base = base; state = σ; known = y .symbols .turns .known }
+    -- what follows asks for all that was left
+    abbrev pub resolved-read : SymbolsAgree t base σ st l′ n e′ ix d′ (resolved.Through m) (symbolsOf base σ) → ResolvedRead t base st m l′ n e′ ix i lw w
+    resolved-read a =
+        record {
+          room = k;
+          state = σ;
+          unplaced = l;
+          pending = e;
+          exprs = x;
+          unfilled = d;
+          filled = d′;
+          read = s;
+          found = symbols-through a;
+        }
 
-      abbrev pub unemitted : Unemitted t l′ n (st .labels) e′ ix (st .rest .equates) starts i (st .rest .own .items .items) w
-      unemitted =
+  -- what follows symbols that are found
+  module _ {l′ e′ ix d′ : List ℕ} {m : ℕ} (y : SymbolsFound t base σ st l′ n e′ ix d′ m) (starts : Starts)
+      (of : (τ : State) → length (τ .rest .own .stored .bytes) ≡ st .rest .own .stored .bytes → StartsAt starts base τ) where
+    abbrev at : StartsAt starts base σ
+    at = symbols-starts symbols-ready starts of
+
+    abbrev scope : Scope
+    scope = record { base = base; state = σ; known = y .symbols .turns .known }
+
+    abbrev pub unemitted : Unemitted t l′ n (st .labels) e′ ix (st .rest .equates) starts i (st .rest .own .items .items) w
+    unemitted =
+        record {
+          scope = scope;
+          room = k;
+          reserved = st .rest .own .items .words;
+          names = record { labels = y .left .labels; equates = y .left .equates };
+          starting = at;
+          items = s .stands .rest .own .items;
+          zeros = s .zeros;
+          lent = s .lent;
+        }
+
+    after-is : afterLines base σ ≡ emitting base σ (y .symbols)
+    after-is = after-symbols base σ ∙ ap (λ (o : Result Refusal Symbols). andThen o (emitting base σ)) (y .are)
+
+    pub emit-stop : (i′ w′ : List ℕ) (r line : ℕ) → EmitAgrees i′ w′ (step.Refused r line) (emittedIn scope) → (b : Buffers)
+        → LaidAgrees b (laid.Refused r line) (afterLines base σ)
+    emit-stop i′ w′ r line a b = rw after-is (by (emittedIn scope) a)
+      where
+        by : (o : Result Refusal Emitted) → EmitAgrees i′ w′ (step.Refused r line) o
+            → LaidAgrees b (laid.Refused r line) (andThen o (λ z. value (layout base σ (y .symbols .bytes) (y .symbols .turns) z)))
+        by (value z) q = absurd q
+        by (refused z) q = q
+
+    all-found : AllFound (turn base σ) (σ .rest .equates) (y .symbols .turns .known) (y .symbols .turns .evaluations)
+    all-found = by (fill (labelAddress base σ) (σ .rest .own .stored .labelWords) (σ .rest .own .stored .bytes)) (resolve base σ (σ .rest .equates)) (all-end base σ (σ .rest .equates)) (y .are)
+      where
+        by : (f : Result Refusal (List ℕ)) (g : Result Refusal Turns) → Comes (λ z. AllFound (turn base σ) (σ .rest .equates) (z .known) (z .evaluations)) (RoundsRefused base σ (σ .rest .equates)) g
+            → andThen f (λ bytes. andThen g (λ z. value (record { bytes = bytes; turns = z }))) ≡ value (y .symbols)
+            → AllFound (turn base σ) (σ .rest .equates) (y .symbols .turns .known) (y .symbols .turns .evaluations)
+        by (refused r) g c q = absurd (refused-value q)
+        by (value bytes) (refused r) c q = absurd (refused-value q)
+        by (value bytes) (value z) c q = rw (ap (λ (o : Symbols). o .turns) (value-same q)) at c
+
+    data-size : length (y .symbols .bytes) ≡ st .rest .own .stored .bytes
+    data-size =
+        by (fill (labelAddress base σ) (σ .rest .own .stored .labelWords) (σ .rest .own .stored .bytes)) (resolve base σ (σ .rest .equates))
+        (fill-fits t (labelAddress base σ) (σ .rest .own .stored .labelWords) (length (σ .rest .own .stored .bytes)) (σ .rest .own .stored .bytes) refl (s .stands .rest .own .stored .fits .each))
+        (y .are) ∙ sym (s .stands .rest .own .stored .counted)
+      where
+        by : (f : Result Refusal (List ℕ)) (g : Result Refusal Turns) → Comes (λ bs. length bs ≡ length (σ .rest .own .stored .bytes)) (InText t) f
+            → andThen f (λ bytes. andThen g (λ z. value (record { bytes = bytes; turns = z }))) ≡ value (y .symbols)
+            → length (y .symbols .bytes) ≡ length (σ .rest .own .stored .bytes)
+        by (refused r) g c q = absurd (refused-value q)
+        by (value bytes) (refused r) c q = absurd (refused-value q)
+        by (value bytes) (value z) c q = ap (λ (o : Symbols). length (o .bytes)) (sym (value-same q)) ∙ c
+
+    module _ (i′ w′ l″ : List ℕ) (count : ℕ) (ordering : LabelTable t l″ (st .labels) (ordered (map (placed base σ) (σ .labels)))) where
+      abbrev counts : counted.Counts
+      counts =
           record {
-            scope = scope;
-            room = k;
-            reserved = st .rest .own .items .words;
-            names = record { labels = y .left .labels; equates = y .left .equates };
-            starting = at;
-            items = s .stands .rest .own .items;
-            zeros = s .zeros;
-            lent = s .lent;
+            words = count;
+            «data_bytes» = st .rest .own .stored .bytes;
+            «data_base» = starts .«data»;
+            «bss_size» = st .rest .own .bss;
+            labels = st .labels;
+            equates = st .rest .equates;
+            items = st .rest .own .items .items;
+            evaluations = m;
           }
 
-      -- what follows the symbols
-      after-is : afterLines base σ ≡ emitting base σ (y .symbols)
-      after-is = after-symbols base σ ∙ ap (λ (o : Result Refusal Symbols). andThen o (emitting base σ)) (y .are)
+      laid-left : (z : Emitted) → EmitLeft i′ w′ count z → length (z .items) ≡ length (σ .rest .own .items .list)
+          → LaidLeft (buffers w′ d′ l″ e′ i′) counts (layout base σ (y .symbols .bytes) (y .symbols .turns) z)
+      laid-left z a c =
+          let own = s .stands .rest .own in
+          let found = none-pending (y .symbols .turns .known) (all-found .found) in
+          let equates : st .rest .equates ≡ length (foundEquates (y .symbols .turns .known)) = y .left .equates .rows .counted ∙ sym (found-length (y .symbols .turns .known) found) in
+          let items : st .rest .own .items .items ≡ length (z .items) = own .items .counted ∙ sym c in
+          record {
+            counts = λ j. record {
+              words = a .counted j;
+              dataBytes = sym data-size j;
+              dataBase = at .data-start j;
+              bssSize = own .bss j;
+              labels = ordering .counted j;
+              equates = equates j;
+              items = items j;
+              evaluations = y .left .evaluations j;
+            };
+            buffers = λ j. record {
+              words = a .words j;
+              dataBytes = y .left .bytes j;
+              labels = ordering .records j;
+              equates = (y .left .equates .rows .records ∙ found-rows (length e′) (y .symbols .turns .known) found) j;
+              items = a .items j;
+            };
+          }
 
-      pub emit-stop : (i′ w′ : List ℕ) (r line : ℕ) → EmitAgrees i′ w′ (step.Refused r line) (emittedIn scope) → (b : Buffers)
-          → LaidAgrees b (laid.Refused r line) (afterLines base σ)
-      emit-stop i′ w′ r line a b = rw after-is (by (emittedIn scope) a)
+      pub emit-go : EmitAgrees i′ w′ (step.Through count) (emittedIn scope) → LaidAgrees (buffers w′ d′ l″ e′ i′) (laid.Through counts) (afterLines base σ)
+      emit-go a =
+          rw after-is
+          (by (emittedIn scope)
+          (emit-fits t base (s .base-limit) (constant (y .symbols .turns .known)) (labelAddress base σ) (σ .rest .own .items .list) [] [] (s .stands .rest .own .items .fits .each) tt tt) a)
         where
-          by : (o : Result Refusal Emitted) → EmitAgrees i′ w′ (step.Refused r line) o
-              → LaidAgrees b (laid.Refused r line) (andThen o (λ z. value (layout base σ (y .symbols .bytes) (y .symbols .turns) z)))
-          by (value z) q = absurd q
-          by (refused z) q = q
-
-      all-found : AllFound (turn base σ) (σ .rest .equates) (y .symbols .turns .known) (y .symbols .turns .evaluations)
-      all-found = by (fill (labelAddress base σ) (σ .rest .own .stored .labelWords) (σ .rest .own .stored .bytes)) (resolve base σ (σ .rest .equates)) (all-end base σ (σ .rest .equates)) (y .are)
-        where
-          by : (f : Result Refusal (List ℕ)) (g : Result Refusal Turns) → Comes (λ z. AllFound (turn base σ) (σ .rest .equates) (z .known) (z .evaluations)) (RoundsRefused base σ (σ .rest .equates)) g
-              → andThen f (λ bytes. andThen g (λ z. value (record { bytes = bytes; turns = z }))) ≡ value (y .symbols)
-              → AllFound (turn base σ) (σ .rest .equates) (y .symbols .turns .known) (y .symbols .turns .evaluations)
-          by (refused r) g c q = absurd (refused-value q)
-          by (value bytes) (refused r) c q = absurd (refused-value q)
-          by (value bytes) (value z) c q = rw (ap (λ (o : Symbols). o .turns) (value-same q)) at c
-
-      data-size : length (y .symbols .bytes) ≡ st .rest .own .stored .bytes
-      data-size =
-          by (fill (labelAddress base σ) (σ .rest .own .stored .labelWords) (σ .rest .own .stored .bytes)) (resolve base σ (σ .rest .equates))
-          (fill-fits t (labelAddress base σ) (σ .rest .own .stored .labelWords) (length (σ .rest .own .stored .bytes)) (σ .rest .own .stored .bytes) refl (s .stands .rest .own .stored .fits .each))
-          (y .are) ∙ sym (s .stands .rest .own .stored .counted)
-        where
-          by : (f : Result Refusal (List ℕ)) (g : Result Refusal Turns) → Comes (λ bs. length bs ≡ length (σ .rest .own .stored .bytes)) (InText t) f
-              → andThen f (λ bytes. andThen g (λ z. value (record { bytes = bytes; turns = z }))) ≡ value (y .symbols)
-              → length (y .symbols .bytes) ≡ length (σ .rest .own .stored .bytes)
-          by (refused r) g c q = absurd (refused-value q)
-          by (value bytes) (refused r) c q = absurd (refused-value q)
-          by (value bytes) (value z) c q = ap (λ (o : Symbols). length (o .bytes)) (sym (value-same q)) ∙ c
-
-      module _ (i′ w′ l″ : List ℕ) (count : ℕ) (ordering : LabelTable t l″ (st .labels) (ordered (map (placed base σ) (σ .labels)))) where
-        abbrev counts : counted.Counts
-        counts =
-            record {
-              words = count;
-              «data_bytes» = st .rest .own .stored .bytes;
-              «data_base» = starts .«data»;
-              «bss_size» = st .rest .own .bss;
-              labels = st .labels;
-              equates = st .rest .equates;
-              items = st .rest .own .items .items;
-              evaluations = m;
-            }
-
-        laid-left : (z : Emitted) → EmitLeft i′ w′ count z → length (z .items) ≡ length (σ .rest .own .items .list)
-            → LaidLeft (buffers w′ d′ l″ e′ i′) counts (layout base σ (y .symbols .bytes) (y .symbols .turns) z)
-        laid-left z a c =
-            let own = s .stands .rest .own in
-            let found = none-pending (y .symbols .turns .known) (all-found .found) in
-            let equates : st .rest .equates ≡ length (foundEquates (y .symbols .turns .known)) = y .left .equates .rows .counted ∙ sym (found-length (y .symbols .turns .known) found) in
-            let items : st .rest .own .items .items ≡ length (z .items) = own .items .counted ∙ sym c in
-            record {
-              counts = λ j. record {
-                words = a .counted j;
-                dataBytes = sym data-size j;
-                dataBase = at .data-start j;
-                bssSize = own .bss j;
-                labels = ordering .counted j;
-                equates = equates j;
-                items = items j;
-                evaluations = y .left .evaluations j;
-              };
-              buffers = λ j. record {
-                words = a .words j;
-                dataBytes = y .left .bytes j;
-                labels = ordering .records j;
-                equates = (y .left .equates .rows .records ∙ found-rows (length e′) (y .symbols .turns .known) found) j;
-                items = a .items j;
-              };
-            }
-
-        pub emit-go : EmitAgrees i′ w′ (step.Through count) (emittedIn scope) → LaidAgrees (buffers w′ d′ l″ e′ i′) (laid.Through counts) (afterLines base σ)
-        emit-go a =
-            rw after-is
-            (by (emittedIn scope)
-            (emit-fits t base (s .base-limit) (constant (y .symbols .turns .known)) (labelAddress base σ) (σ .rest .own .items .list) [] [] (s .stands .rest .own .items .fits .each) tt tt) a)
-          where
-            by : (o : Result Refusal Emitted) → Comes (Emits t (σ .rest .own .items .list) [] []) (InText t) o → EmitAgrees i′ w′ (step.Through count) o
-                → LaidAgrees (buffers w′ d′ l″ e′ i′) (laid.Through counts) (andThen o (λ z. value (layout base σ (y .symbols .bytes) (y .symbols .turns) z)))
-            by (value z) f q = laid-left z q (omega (arith, f .count))
-            by (refused z) f q = absurd q
+          by : (o : Result Refusal Emitted) → Comes (Emits t (σ .rest .own .items .list) [] []) (InText t) o → EmitAgrees i′ w′ (step.Through count) o
+              → LaidAgrees (buffers w′ d′ l″ e′ i′) (laid.Through counts) (andThen o (λ z. value (layout base σ (y .symbols .bytes) (y .symbols .turns) z)))
+          by (value z) f q = laid-left z q (omega (arith, f .count))
+          by (refused z) f q = absurd q
 
 -- ---- the lines
 

@@ -161,10 +161,8 @@ itemsIn z = z .state .rest .own .items .list
 abbrev EmittingIn : Scope → (t i w : List ℕ) → ℕ → ℕ → Type 0
 EmittingIn z t i w k at = Emitting (z .base) (constant (z .known)) (labelAddress (z .base) (z .state)) t (itemsIn z) i w k at
 
-pub record EmitLoop (t l n : List ℕ) (c : ℕ) (e x : List ℕ) (m : ℕ) (starts : Starts) (i₀ : List ℕ) (count : ℕ) (w₀ s₀ s i w : List ℕ) (k at : ℕ)
-    : Type 0 where
+pub record EmitLoop (t l n : List ℕ) (c : ℕ) (e x : List ℕ) (m : ℕ) (starts : Starts) (i₀ : List ℕ) (count : ℕ) (w₀ i w : List ℕ) (k at : ℕ) : Type 0 where
   pub within : k ≤ count
-  pub scratch-sized : length s ≡ length s₀
   pub items-sized : length i ≡ length i₀
   pub words-sized : length w ≡ length w₀
   pub emitting : (u : Unemitted t l n c e x m starts i₀ count w₀) → EmittingIn (u .scope) t i w k at
@@ -178,11 +176,10 @@ unemitted-rows n xs = ap (λ (bs : List (List ℕ)). padded n (together bs)) (ea
     each (y ∷ ys) = ap (λ (bs : List (List ℕ)). fieldBytes (itemSoFar y) ∷ bs) (each ys)
 
 module _ {t l n : List ℕ} {c : ℕ} {e x : List ℕ} {m : ℕ} {starts : Starts} {i₀ : List ℕ} {count : ℕ} {w₀ : List ℕ} where
-  pub emit-first : {s₀ : List ℕ} → EmitLoop t l n c e x m starts i₀ count w₀ s₀ s₀ i₀ w₀ 0 0
+  pub emit-first : EmitLoop t l n c e x m starts i₀ count w₀ i₀ w₀ 0 0
   emit-first =
       record {
         within = omega arith;
-        scratch-sized = refl;
         items-sized = refl;
         words-sized = refl;
         emitting = λ u.
@@ -214,7 +211,7 @@ module _ {t l n : List ℕ} {c : ℕ} {e x : List ℕ} {m : ℕ} {starts : Start
         let f = u .items .fits in
         (omega (arith, f .sum, f .room, u .items .word-limit), omega (arith, f .sum, f .room, u .lent))
 
-    module _ {s₀ s i w : List ℕ} {k at : ℕ} (p : EmitLoop t l n c e x m starts i₀ count w₀ s₀ s i w k at) where
+    module _ {i w : List ℕ} {k at : ℕ} (p : EmitLoop t l n c e x m starts i₀ count w₀ i w k at) where
       pub emit-low : at ≤ wordLimit
       emit-low = let q = p .emitting u in omega (arith, q .written, q .emit .room, reserved-room .0)
 

@@ -3,6 +3,7 @@ use Prim.Native.Nat.{ℕ, _-_, _≤_}
 use native.Mathlib.Omega.{arith}
 use mathlib.Core.Path.{_≡_, refl, sym, ap, _∙_}
 use mathlib.Core.List.{List, [], _∷_, _++_, map}
+use mathlib.Core.Bool.{Bool, true, false}
 use mathlib.Core.Option.{Option}
 use lib.IntN.{ℤ}
 use lib.ListN.{length, take, drop, length-append, length-drop}
@@ -23,6 +24,7 @@ use Rattle.numbers.specs.code.Spans.{spanned}
 use Rattle.numbers.specs.code.Cursors.{itemOperandsFrom, itemOperandAt}
 use Rattle.numbers.proofs.Trims.{tail}
 use Rattle.numbers.proofs.Parts.{items-spaced, item-step, item-end, items-all}
+use Rattle.numbers.proofs.Spaced.{spaced-other}
 use Rattle.numbers.proofs.SpacedNumbers.{register-spaced}
 use Rattle.layout.specs.declared.pseudo.Pseudo.{Pseudo}
 use Rattle.layout.specs.declared.addresses.Address.{Address}
@@ -74,6 +76,16 @@ module _ (s d d′ : List ℕ) (n : ℕ) (h : (n ≡ length s) × (d′ ≡ s ++
 
   pub written-counted : n ≡ length (take n d′)
   written-counted = h .0 ∙ sym (ap length written-back)
+
+-- an operand without white space stands as it is
+pub unspaced : (s : List ℕ) → countBefore isSpace s ≡ length s → oneSpaced s ≡ s
+unfolding oneSpaced countBefore
+unspaced [] e = refl
+unspaced (x ∷ xs) e = go (isSpace x) refl (unspaced xs)
+  where
+    go : (t : Bool) → isSpace x ≡ t → (countBefore isSpace xs ≡ length xs → oneSpaced xs ≡ xs) → oneSpaced (x ∷ xs) ≡ x ∷ xs
+    go true h f = absurd (omega (arith, rw h at e))
+    go false h f = spaced-other x xs h ∙ ap (λ (ys : List ℕ). x ∷ ys) (f (omega (arith, rw h at e)))
 
 -- ---- a source
 

@@ -19,7 +19,7 @@ ghost use Rattle.layout.specs.Limits.{baseLimit, textLimit};
 ghost use Rattle.layout.specs.Layouts.{checkBytes, layoutOf};
 ghost use Rattle.layout.specs.Calls.{Assembled};
 ghost use Rattle.layout.specs.code.Checks.{anyHigh, BytesAgree};
-ghost use Rattle.layout.specs.code.Calls.{LinesReady, LinesGive, LaidAgrees, Clear, Clears, linesOf, buffersNow, lengths, answerIn, refusedAnswer};
+ghost use Rattle.layout.specs.code.Calls.{LinesReady, LinesGive, ResolvedReady, ResolvedGive, LaidAgrees, Clear, Clears, linesOf, buffersNow, lengths, answerIn, refusedAnswer};
 
 // What is counted of a layout; after a refusal every count is 0.
 pub struct Counts {
@@ -108,7 +108,60 @@ pub fn check_bytes(text: &[u8]) -> Bytes
     Bytes::Fine
 }
 
-// After the lines: symbols, the items' words, and the labels in order. Names are looked up before the labels are put in order.
+// After the symbols: the items' words, then the labels in order. Names are looked up before the labels are put in order.
+fn emit_and_order(
+    text: &[u8],
+    base: u32,
+    st: Counters,
+    evaluations: usize,
+    labels: &mut [u8],
+    label_index: &[u16],
+    equates: &[u8],
+    equate_index: &[u16],
+    items: &mut [u8],
+    label_words: &mut [u8],
+    words: &mut [u32],
+) -> Laid
+    requires { ⌜ ResolvedReady text base st evaluations labels «label_index» equates «equate_index» items «label_words» words ⌝ }
+    ensures { λ r. ⌜ ResolvedGive text base st evaluations labels «label_index» equates «equate_index» items «label_words» words r ⌝ }
+{
+    let rest = st.rest;
+    let own = rest.own;
+    let stored = own.stored;
+    let counted = own.items;
+    let starts = Starts::of(base, stored.bytes);
+    match emit_items(
+        text,
+        labels,
+        label_index,
+        st.labels,
+        equates,
+        equate_index,
+        rest.equates,
+        starts,
+        items,
+        counted.items,
+        words,
+    ) {
+        EmitStep::Through(count) => {
+            // the label words are filled: their table has room for every label's record
+            order_labels(text, labels, label_words, st.labels);
+            Laid::Through(Counts {
+                words: count,
+                data_bytes: stored.bytes,
+                data_base: starts.data,
+                bss_size: own.bss,
+                labels: st.labels,
+                equates: rest.equates,
+                items: counted.items,
+                evaluations,
+            })
+        }
+        EmitStep::Refused(n, line) => Laid::Refused(n, line),
+    }
+}
+
+// After the lines: symbols, the items' words, and the labels in order.
 fn after_lines(
     text: &[u8],
     base: u32,
@@ -119,16 +172,12 @@ fn after_lines(
     exprs: &[u8],
     items: &mut [u8],
     data_bytes: &mut [u8],
-    label_words: &[u8],
+    label_words: &mut [u8],
     words: &mut [u32],
 ) -> Laid
     requires { ⌜ LinesReady text base st labels «label_index» equates exprs items «data_bytes» «label_words» words ⌝ }
     ensures { λ r. ⌜ LinesGive text base st labels «label_index» equates exprs items «data_bytes» «label_words» words r ⌝ }
 {
-    let rest = st.rest;
-    let own = rest.own;
-    let stored = own.stored;
-    let counted = own.items;
     // the index over equates, 1,024 buckets and an entry each, and where each waits
     let mut equate_index = [0u16; 1280];
     let mut waits = [0u32; 256];
@@ -145,40 +194,19 @@ fn after_lines(
         data_bytes,
         label_words,
     ) {
-        Resolved::Through(evaluations) => {
-            let starts = Starts::of(base, stored.bytes);
-            // for a name with its white-space runs made one space, then for the labels' records
-            let mut scratch = [0u8; 65536];
-            match emit_items(
-                text,
-                labels,
-                label_index,
-                st.labels,
-                equates,
-                &equate_index,
-                rest.equates,
-                &mut scratch,
-                starts,
-                items,
-                counted.items,
-                words,
-            ) {
-                EmitStep::Through(count) => {
-                    order_labels(text, labels, &mut scratch, st.labels);
-                    Laid::Through(Counts {
-                        words: count,
-                        data_bytes: stored.bytes,
-                        data_base: starts.data,
-                        bss_size: own.bss,
-                        labels: st.labels,
-                        equates: rest.equates,
-                        items: counted.items,
-                        evaluations,
-                    })
-                }
-                EmitStep::Refused(n, line) => Laid::Refused(n, line),
-            }
-        }
+        Resolved::Through(evaluations) => emit_and_order(
+            text,
+            base,
+            st,
+            evaluations,
+            labels,
+            label_index,
+            equates,
+            &equate_index,
+            items,
+            label_words,
+            words,
+        ),
         Resolved::Refused(n, line) => Laid::Refused(n, line),
     }
 }
@@ -230,7 +258,7 @@ fn lay_lines(
             &exprs,
             items,
             data_bytes,
-            &label_words,
+            &mut label_words,
             words,
         ),
         Stage::Refused(n, line) => Laid::Refused(n, line),

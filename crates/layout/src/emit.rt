@@ -24,6 +24,7 @@ ghost use Rattle.numbers.specs.code.Spans.{spanned};
 ghost use Rattle.encoder.specs.Encoding.{encoding};
 ghost use Rattle.encoder.specs.code.Meanings.{answerOf};
 ghost use Rattle.layout.specs.declared.pseudo.Pseudo as code;
+ghost use Rattle.layout.specs.Limits.{textLimit};
 ghost use Rattle.layout.specs.Pseudos.{itemKind, pseudoWords, reservedWords};
 ghost use Rattle.layout.specs.Layouts.{encoded};
 ghost use Rattle.layout.specs.code.Steps.{Some};
@@ -106,13 +107,12 @@ fn emit_pseudo(
     equates: &[u8],
     equate_index: &[u16],
     equate_count: usize,
-    scratch: &mut [u8],
     pseudo: Pseudo,
     s: &[u8],
     dst: &mut [u32],
 ) -> Count
     requires { ⌜ NamesReady text labels «label_index» «label_count» equates «equate_index» «equate_count»
-        × (length (now s) ≤ length (now scratch)) × (pseudoWords «pseudo» (now s) ≤ length (now dst)) ⌝ }
+        × (length (now s) ≤ textLimit) × (pseudoWords «pseudo» (now s) ≤ length (now dst)) ⌝ }
     ensures { λ r. ⌜ NamesKnown text labels «label_index» «label_count» equates «equate_index» «equate_count»
         (λ names. Puts dst r (emissionIn names (some «pseudo») (now (s .entry)))) ⌝ }
 {
@@ -124,7 +124,6 @@ fn emit_pseudo(
         equates,
         equate_index,
         equate_count,
-        scratch,
         pseudo,
         s,
     );
@@ -140,12 +139,10 @@ fn emit_line(
     equates: &[u8],
     equate_index: &[u16],
     equate_count: usize,
-    scratch: &mut [u8],
     kind: LineKind,
     dst: &mut [u32],
 ) -> Count
     requires { ⌜ NamesReady text labels «label_index» «label_count» equates «equate_index» «equate_count»
-        × (length (spanned (now text) (kindSource kind)) ≤ length (now scratch))
         × (reservedWords (kindItem kind) (spanned (now text) (kindSource kind)) ≤ length (now dst)) ⌝ }
     ensures { λ r. ⌜ NamesKnown text labels «label_index» «label_count» equates «equate_index» «equate_count»
         (λ names. Puts dst r (emissionIn names (kindItem kind) (spanned (now (text .entry)) (kindSource kind)))) ⌝ }
@@ -160,7 +157,6 @@ fn emit_line(
             equates,
             equate_index,
             equate_count,
-            scratch,
             p,
             span_bytes(text, source),
             dst,
@@ -178,12 +174,10 @@ fn emit_item(
     equates: &[u8],
     equate_index: &[u16],
     equate_count: usize,
-    scratch: &mut [u8],
     item: ItemRecord,
     dst: &mut [u32],
 ) -> Count
     requires { ⌜ NamesReady text labels «label_index» «label_count» equates «equate_index» «equate_count»
-        × (length (spanned (now text) (sourceSpan item)) ≤ length (now scratch))
         × Some (ItemFits (now text) (length (now dst)) item) ⌝ }
     ensures { λ r. ⌜ NamesKnown text labels «label_index» «label_count» equates «equate_index» «equate_count»
         (λ names. (x : Option code.Pseudo) → item .kind ≡ itemKind x
@@ -201,7 +195,6 @@ fn emit_item(
         equates,
         equate_index,
         equate_count,
-        scratch,
         item_kind(item.kind, source),
         dst,
     )
@@ -216,13 +209,12 @@ pub fn emit_items(
     equates: &[u8],
     equate_index: &[u16],
     equate_count: usize,
-    scratch: &mut [u8],
     starts: Starts,
     items: &mut [u8],
     count: usize,
     words: &mut [u32],
 ) -> EmitStep
-    requires { ⌜ EmitReady text labels «label_index» «label_count» equates «equate_index» «equate_count» scratch starts items count words ⌝ }
+    requires { ⌜ EmitReady text labels «label_index» «label_count» equates «equate_index» «equate_count» starts items count words ⌝ }
     ensures { λ r. ⌜ Emits text labels «label_index» «label_count» equates «equate_index» «equate_count» starts items count words r ⌝ }
 {
     let mut at = 0;
@@ -237,7 +229,6 @@ pub fn emit_items(
             equates,
             equate_index,
             equate_count,
-            scratch,
             item,
             &mut words[at..],
         ) {

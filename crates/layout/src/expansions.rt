@@ -3,6 +3,7 @@ use crate::addresses::Address;
 use crate::addresses::label_address;
 use crate::equates::Value;
 use crate::equates::constant;
+use crate::limits::TEXT_LIMIT;
 use crate::pieces::word_len;
 use crate::pseudo::Pseudo;
 use crate::state::Count;
@@ -39,6 +40,7 @@ ghost use Rattle.numbers.specs.code.Meanings.{registerNumber};
 ghost use Rattle.encoder.specs.declared.instruction.Instruction.the-variants.{Addi, Lui, Lbu, Lw, Sw, Beq, Jal, Sub};
 ghost use Rattle.encoder.specs.Split.{loadPair};
 ghost use Rattle.layout.specs.declared.pseudo.Pseudo.the-variants as pseudo;
+ghost use Rattle.layout.specs.Limits.{textLimit};
 ghost use Rattle.layout.specs.Bytes.{countBefore};
 ghost use Rattle.layout.specs.Addresses.{labelAddress};
 ghost use Rattle.layout.specs.Rounds.{constant};
@@ -53,6 +55,12 @@ ghost use Rattle.layout.specs.code.Expands.{WhereKnown, ExpandsAlone, Ex
 
 // The longest expansion, print_str's.
 pub const LONGEST: usize = 11;
+
+// The bytes of an operand's copy. A short one costs little to clear, so that many operands with white space stay cheap; the long one has room for any
+// operand and is rarely needed, since all of them stand in one text.
+const SHORT_COPY: usize = 1024;
+
+const LONG_COPY: usize = TEXT_LIMIT;
 
 // One instruction of an expansion.
 pub struct Slot {
@@ -174,21 +182,44 @@ fn load_operands(ops: &[u8]) -> Load
     Load::Into(rd, second)
 }
 
-// A label's address by an operand, whose white-space runs are one space.
+// A label's address by a copy of an operand, whose white-space runs are one space.
+fn spaced_address(
+    text: &[u8],
+    labels: &[u8],
+    index: &[u16],
+    count: usize,
+    copy: &mut [u8],
+    operand: &[u8],
+) -> Address
+    requires { ⌜ LabelsIndexed (now text) (now labels) (now index) count × (length (now operand) ≤ length (now copy)) ⌝ }
+    ensures { λ r. ⌜ WherePlaced text labels index count
+        (λ base σ. addressOf r ≡ labelAddress base σ (oneSpaced (now (operand .entry)))) ⌝ }
+{
+    let n = put_one_spaced(copy, operand);
+    label_address(text, labels, index, count, &copy[..n])
+}
+
+// The same by the operand itself, where it has no white space, as most have none.
 fn operand_address(
     text: &[u8],
     labels: &[u8],
     index: &[u16],
     count: usize,
-    scratch: &mut [u8],
     operand: &[u8],
 ) -> Address
-    requires { ⌜ LabelsIndexed (now text) (now labels) (now index) count × (length (now operand) ≤ length (now scratch)) ⌝ }
+    requires { ⌜ LabelsIndexed (now text) (now labels) (now index) count × (length (now operand) ≤ textLimit) ⌝ }
     ensures { λ r. ⌜ WherePlaced text labels index count
         (λ base σ. addressOf r ≡ labelAddress base σ (oneSpaced (now (operand .entry)))) ⌝ }
 {
-    let n = put_one_spaced(scratch, operand);
-    label_address(text, labels, index, count, &scratch[..n])
+    if word_len(operand) == operand.len() {
+        return label_address(text, labels, index, count, operand);
+    }
+    if operand.len() <= SHORT_COPY {
+        let mut copy = [0u8; SHORT_COPY];
+        return spaced_address(text, labels, index, count, &mut copy, operand);
+    }
+    let mut copy = [0u8; LONG_COPY];
+    spaced_address(text, labels, index, count, &mut copy, operand)
 }
 
 // The address of the label that the only operand names, or the refusal's number.
@@ -197,29 +228,16 @@ enum Target {
     Refused(u8),
 }
 
-fn label_operand(
-    text: &[u8],
-    labels: &[u8],
-    index: &[u16],
-    count: usize,
-    scratch: &mut [u8],
-    ops: &[u8],
-) -> Target
-    requires { ⌜ LabelsIndexed (now text) (now labels) (now index) count × (length (now ops) ≤ length (now scratch)) ⌝ }
+fn label_operand(text: &[u8], labels: &[u8], index: &[u16], count: usize, ops: &[u8]) -> Target
+    requires { ⌜ LabelsIndexed (now text) (now labels) (now index) count × (length (now ops) ≤ textLimit) ⌝ }
     ensures { λ r. ⌜ WherePlaced text labels index count (λ base σ. (f : ℕ → Expanded) → targetThen r f
         ≡ oneOperand (spacedOperands (now (ops .entry))) (λ a. noRegister (registerOf a) (onLabel (labelAddress base σ a) f))) ⌝ }
 {
     let Only::At(operand) = only_name(ops) else {
         return Target::Refused(18);
     };
-    let Address::At(a) = operand_address(
-        text,
-        labels,
-        index,
-        count,
-        scratch,
-        span_bytes(ops, operand),
-    ) else {
+    let Address::At(a) = operand_address(text, labels, index, count, span_bytes(ops, operand))
+    else {
         return Target::Refused(20);
     };
     Target::At(a)
@@ -243,39 +261,49 @@ fn li_constant(text: &[u8], equates: &[u8], index: &[u16], count: usize, name: &
     Imm::Invalid
 }
 
-// An equate's value by an operand, likewise.
-fn operand_constant(
+// The same by a copy of an operand, whose white-space runs are one space.
+fn spaced_constant(
     text: &[u8],
     equates: &[u8],
     index: &[u16],
     count: usize,
-    scratch: &mut [u8],
+    copy: &mut [u8],
     operand: &[u8],
 ) -> Imm
-    requires { ⌜ Some (EquateTable (now text) (now equates) (now index) count) × (length (now operand) ≤ length (now scratch)) ⌝ }
+    requires { ⌜ Some (EquateTable (now text) (now equates) (now index) count) × (length (now operand) ≤ length (now copy)) ⌝ }
     ensures { λ r. ⌜ WhereKnown text equates index count
         (λ ks. (f : ℤ → Expanded) → immThen r f ≡ onNumber none (oneSpaced (now (operand .entry))) (constant ks) f) ⌝ }
 {
-    let n = put_one_spaced(scratch, operand);
-    li_constant(text, equates, index, count, &scratch[..n])
+    let n = put_one_spaced(copy, operand);
+    li_constant(text, equates, index, count, &copy[..n])
+}
+
+// The same by the operand itself, where it has no white space.
+fn operand_constant(text: &[u8], equates: &[u8], index: &[u16], count: usize, operand: &[u8]) -> Imm
+    requires { ⌜ Some (EquateTable (now text) (now equates) (now index) count) × (length (now operand) ≤ textLimit) ⌝ }
+    ensures { λ r. ⌜ WhereKnown text equates index count
+        (λ ks. (f : ℤ → Expanded) → immThen r f ≡ onNumber none (oneSpaced (now (operand .entry))) (constant ks) f) ⌝ }
+{
+    if word_len(operand) == operand.len() {
+        return li_constant(text, equates, index, count, operand);
+    }
+    if operand.len() <= SHORT_COPY {
+        let mut copy = [0u8; SHORT_COPY];
+        return spaced_constant(text, equates, index, count, &mut copy, operand);
+    }
+    let mut copy = [0u8; LONG_COPY];
+    spaced_constant(text, equates, index, count, &mut copy, operand)
 }
 
 // What an li loads: a number, or else an equate's value.
-fn li_number(
-    text: &[u8],
-    equates: &[u8],
-    index: &[u16],
-    count: usize,
-    scratch: &mut [u8],
-    operand: &[u8],
-) -> Imm
-    requires { ⌜ Some (EquateTable (now text) (now equates) (now index) count) × (length (now operand) ≤ length (now scratch)) ⌝ }
+fn li_number(text: &[u8], equates: &[u8], index: &[u16], count: usize, operand: &[u8]) -> Imm
+    requires { ⌜ Some (EquateTable (now text) (now equates) (now index) count) × (length (now operand) ≤ textLimit) ⌝ }
     ensures { λ r. ⌜ WhereKnown text equates index count (λ ks. (f : ℤ → Expanded) → immThen r f
         ≡ onNumber (immOf (oneSpaced (now (operand .entry)))) (oneSpaced (now (operand .entry))) (constant ks) f) ⌝ }
 {
     match parse_imm_one_spaced(operand) {
         Imm::Value(v) => Imm::Value(v),
-        Imm::Invalid => operand_constant(text, equates, index, count, scratch, operand),
+        Imm::Invalid => operand_constant(text, equates, index, count, operand),
     }
 }
 
@@ -372,56 +400,29 @@ fn load_number(rd: Register, v: i32) -> Expansion
 }
 
 // li rd, imm
-fn parse_li(
-    text: &[u8],
-    equates: &[u8],
-    index: &[u16],
-    count: usize,
-    scratch: &mut [u8],
-    ops: &[u8],
-) -> Expansion
-    requires { ⌜ Some (EquateTable (now text) (now equates) (now index) count) × (length (now ops) ≤ length (now scratch)) ⌝ }
+fn parse_li(text: &[u8], equates: &[u8], index: &[u16], count: usize, ops: &[u8]) -> Expansion
+    requires { ⌜ Some (EquateTable (now text) (now equates) (now index) count) × (length (now ops) ≤ textLimit) ⌝ }
     ensures { λ r. ⌜ ExpandsByEquates text equates index count pseudo.Li ops r ⌝ }
 {
     let Load::Into(rd, operand) = load_operands(ops) else {
         return refused(18);
     };
-    let Imm::Value(v) = li_number(
-        text,
-        equates,
-        index,
-        count,
-        scratch,
-        span_bytes(ops, operand),
-    ) else {
+    let Imm::Value(v) = li_number(text, equates, index, count, span_bytes(ops, operand)) else {
         return refused(19);
     };
     load_number(rd, v)
 }
 
 // la rd, label
-fn parse_la(
-    text: &[u8],
-    labels: &[u8],
-    index: &[u16],
-    count: usize,
-    scratch: &mut [u8],
-    ops: &[u8],
-) -> Expansion
-    requires { ⌜ LabelsIndexed (now text) (now labels) (now index) count × (length (now ops) ≤ length (now scratch)) ⌝ }
+fn parse_la(text: &[u8], labels: &[u8], index: &[u16], count: usize, ops: &[u8]) -> Expansion
+    requires { ⌜ LabelsIndexed (now text) (now labels) (now index) count × (length (now ops) ≤ textLimit) ⌝ }
     ensures { λ r. ⌜ ExpandsByLabels text labels index count pseudo.La ops r ⌝ }
 {
     let Load::Into(rd, operand) = load_operands(ops) else {
         return refused(18);
     };
-    let Address::At(a) = operand_address(
-        text,
-        labels,
-        index,
-        count,
-        scratch,
-        span_bytes(ops, operand),
-    ) else {
+    let Address::At(a) = operand_address(text, labels, index, count, span_bytes(ops, operand))
+    else {
         return refused(20);
     };
     load_word(rd, a)
@@ -503,18 +504,11 @@ fn print_str(a: u32) -> Expansion
     addi(e, 9, Register::A7, zero, 64)
 }
 
-fn parse_print_str(
-    text: &[u8],
-    labels: &[u8],
-    index: &[u16],
-    count: usize,
-    scratch: &mut [u8],
-    ops: &[u8],
-) -> Expansion
-    requires { ⌜ LabelsIndexed (now text) (now labels) (now index) count × (length (now ops) ≤ length (now scratch)) ⌝ }
+fn parse_print_str(text: &[u8], labels: &[u8], index: &[u16], count: usize, ops: &[u8]) -> Expansion
+    requires { ⌜ LabelsIndexed (now text) (now labels) (now index) count × (length (now ops) ≤ textLimit) ⌝ }
     ensures { λ r. ⌜ ExpandsByLabels text labels index count pseudo.PrintStr ops r ⌝ }
 {
-    match label_operand(text, labels, index, count, scratch, ops) {
+    match label_operand(text, labels, index, count, ops) {
         Target::Refused(number) => refused(number),
         Target::At(a) => print_str(a),
     }
@@ -532,18 +526,11 @@ fn read(a: u32) -> Expansion
     addi(e, 4, Register::A7, zero, 63)
 }
 
-fn parse_read(
-    text: &[u8],
-    labels: &[u8],
-    index: &[u16],
-    count: usize,
-    scratch: &mut [u8],
-    ops: &[u8],
-) -> Expansion
-    requires { ⌜ LabelsIndexed (now text) (now labels) (now index) count × (length (now ops) ≤ length (now scratch)) ⌝ }
+fn parse_read(text: &[u8], labels: &[u8], index: &[u16], count: usize, ops: &[u8]) -> Expansion
+    requires { ⌜ LabelsIndexed (now text) (now labels) (now index) count × (length (now ops) ≤ textLimit) ⌝ }
     ensures { λ r. ⌜ ExpandsByLabels text labels index count pseudo.Read ops r ⌝ }
 {
-    match label_operand(text, labels, index, count, scratch, ops) {
+    match label_operand(text, labels, index, count, ops) {
         Target::Refused(number) => refused(number),
         Target::At(a) => read(a),
     }
@@ -558,18 +545,11 @@ fn read_byte(a: u32) -> Expansion
     load_pair(e, 1, Register::A0, a)
 }
 
-fn parse_read_byte(
-    text: &[u8],
-    labels: &[u8],
-    index: &[u16],
-    count: usize,
-    scratch: &mut [u8],
-    ops: &[u8],
-) -> Expansion
-    requires { ⌜ LabelsIndexed (now text) (now labels) (now index) count × (length (now ops) ≤ length (now scratch)) ⌝ }
+fn parse_read_byte(text: &[u8], labels: &[u8], index: &[u16], count: usize, ops: &[u8]) -> Expansion
+    requires { ⌜ LabelsIndexed (now text) (now labels) (now index) count × (length (now ops) ≤ textLimit) ⌝ }
     ensures { λ r. ⌜ ExpandsByLabels text labels index count pseudo.ReadByte ops r ⌝ }
 {
-    match label_operand(text, labels, index, count, scratch, ops) {
+    match label_operand(text, labels, index, count, ops) {
         Target::Refused(number) => refused(number),
         Target::At(a) => read_byte(a),
     }
@@ -609,25 +589,24 @@ pub fn expand(
     equates: &[u8],
     equate_index: &[u16],
     equate_count: usize,
-    scratch: &mut [u8],
     pseudo: Pseudo,
     s: &[u8],
 ) -> Expansion
     requires { ⌜ NamesReady text labels «label_index» «label_count» equates «equate_index» «equate_count»
-        × (length (now s) ≤ length (now scratch)) ⌝ }
+        × (length (now s) ≤ textLimit) ⌝ }
     ensures { λ r. ⌜ NamesKnown text labels «label_index» «label_count» equates «equate_index» «equate_count»
         (λ names. expandedOf r ≡ expansionIn names «pseudo» (now (s .entry))) ⌝ }
 {
     let ops = operands_text(s);
     match pseudo {
-        Pseudo::Li => parse_li(text, equates, equate_index, equate_count, scratch, ops),
-        Pseudo::La => parse_la(text, labels, label_index, label_count, scratch, ops),
+        Pseudo::Li => parse_li(text, equates, equate_index, equate_count, ops),
+        Pseudo::La => parse_la(text, labels, label_index, label_count, ops),
         Pseudo::Push => parse_push(ops),
         Pseudo::Pop => parse_pop(ops),
         Pseudo::Print => parse_print(ops),
-        Pseudo::PrintStr => parse_print_str(text, labels, label_index, label_count, scratch, ops),
-        Pseudo::Read => parse_read(text, labels, label_index, label_count, scratch, ops),
-        Pseudo::ReadByte => parse_read_byte(text, labels, label_index, label_count, scratch, ops),
+        Pseudo::PrintStr => parse_print_str(text, labels, label_index, label_count, ops),
+        Pseudo::Read => parse_read(text, labels, label_index, label_count, ops),
+        Pseudo::ReadByte => parse_read_byte(text, labels, label_index, label_count, ops),
         Pseudo::Random => parse_random(ops),
     }
 }

@@ -20,6 +20,7 @@ use Rattle.layout.specs.Stage.{lineStage}
 use Rattle.layout.specs.Layouts.{Layout, afterLines, Counts, Buffers, Answer, countsOf, buffersOf}
 use Rattle.layout.specs.code.Stands.{Stands, store}
 use Rattle.layout.specs.code.Lent.{Lent, OverCall}
+use Rattle.layout.specs.code.Symbols.{SymbolsFound}
 
 -- ---- the answer as the definitions have it
 
@@ -102,6 +103,27 @@ abbrev pub LinesGive : OverCall → ℕ → Counters → OverCall → OverCall �
 LinesGive t base st l n e x i d lw w r =
     (s : LinesReady (t .entry) base st (l .entry) (n .entry) (e .entry) (x .entry) (i .entry) (d .entry) (lw .entry) (w .entry))
     → LaidAgrees (buffersNow (w .exit) (d .exit) (l .exit) (e .exit) (i .exit)) r (afterLines base (s .state))
+
+-- what resolving the symbols left of what the lines left: labels and equates, and the data, which are lent no more
+pub record ResolvedRead (t : List ℕ) (base : ℕ) (st : Counters) (m : ℕ) (l n e ix i lw w : List ℕ) : Type 0 where
+  pub room : Room
+  pub state : State
+  pub unplaced : List ℕ
+  pub pending : List ℕ
+  pub exprs : List ℕ
+  pub unfilled : List ℕ
+  pub filled : List ℕ
+  pub read : LinesRead t base st unplaced n pending exprs i unfilled lw w room state
+  pub found : SymbolsFound t base state st l n e ix filled m
+
+abbrev pub ResolvedReady : Lent → ℕ → Counters → ℕ → Lent → Lent → Lent → Lent → Lent → Lent → Lent → Type 0
+ResolvedReady t base st m l n e ix i lw w = ResolvedRead (now t) base st m (now l) (now n) (now e) (now ix) (now i) (now lw) (now w)
+
+-- whatever the lines and the symbols came to, what follows them agrees with the definition
+abbrev pub ResolvedGive : OverCall → ℕ → Counters → ℕ → OverCall → OverCall → OverCall → OverCall → OverCall → OverCall → OverCall → Laid → Type 0
+ResolvedGive t base st m l n e ix i lw w r =
+    (s : ResolvedReady (t .entry) base st m (l .entry) (n .entry) (e .entry) (ix .entry) (i .entry) (lw .entry) (w .entry))
+    → LaidAgrees (buffers (now (w .exit)) (s .filled) (now (l .exit)) (now (e .entry)) (now (i .exit))) r (afterLines base (s .state))
 
 -- ---- clearing
 

@@ -47,10 +47,9 @@ EmitAgrees i w (step.Through n) (refused r) = ⊥
 EmitAgrees i w (step.Refused n line) (value y) = ⊥
 EmitAgrees i w (step.Refused n line) (refused r) = (n ≡ r .number) × (line ≡ r .line)
 
--- what is lent is to be emitted, with scratch for any operand; and what it then has
-abbrev pub EmitReady : Lent → Lent → Lent → ℕ → Lent → Lent → ℕ → Lent → Starts → Lent → ℕ → Lent → Type 0
-EmitReady t l n c e x m scratch starts i count w =
-    Unemitted (now t) (now l) (now n) c (now e) (now x) m starts (now i) count (now w) × (length (now t) ≤ length (now scratch))
+-- what is lent is to be emitted, and what it then has
+abbrev pub EmitReady : Lent → Lent → Lent → ℕ → Lent → Lent → ℕ → Starts → Lent → ℕ → Lent → Type 0
+EmitReady t l n c e x m starts i count w = Unemitted (now t) (now l) (now n) c (now e) (now x) m starts (now i) count (now w)
 
 abbrev pub Emits : OverCall → OverCall → OverCall → ℕ → OverCall → OverCall → ℕ → Starts → OverCall → ℕ → OverCall → code.EmitStep → Type 0
 Emits t l n c e x m starts i count w r =

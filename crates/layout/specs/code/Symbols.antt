@@ -55,6 +55,12 @@ pub record SymbolsLeft (t : List ℕ) (base : ℕ) (σ : State) (st : Counters) 
   pub equates : EquateTable t e ix (st .rest .equates) (y .turns .known)
   pub evaluations : count ≡ y .turns .evaluations
 
+-- the symbols that there are, and what is left of them
+pub record SymbolsFound (t : List ℕ) (base : ℕ) (σ : State) (st : Counters) (l n e ix d : List ℕ) (count : ℕ) : Type 0 where
+  pub symbols : Symbols
+  pub are : symbolsOf base σ ≡ value symbols
+  pub left : SymbolsLeft t base σ st l n e ix d count symbols
+
 abbrev pub SymbolsAgree : List ℕ → ℕ → State → Counters → List ℕ → List ℕ → List ℕ → List ℕ → List ℕ → Resolved → Result Refusal Symbols → Type 0
 SymbolsAgree t base σ st l n e ix d (resolved.Through m) (value y) = SymbolsLeft t base σ st l n e ix d m y
 SymbolsAgree t base σ st l n e ix d (resolved.Through m) (refused r) = ⊥

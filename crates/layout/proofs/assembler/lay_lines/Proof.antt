@@ -24,16 +24,16 @@ after-lines-requires c κs =
     record { room = _; state = q .state; read = q .read }
 
 same-length-3 : tie.Need-same-length-3
-same-length-3 c = omega (arith, c .before .before .before .before .before .before .before .before .before .before .before .before .before .before .before .before .before .before .before .before .before .before .before .before .before .before .before .before .before .before .before .before .before .line-stage .kept, c .before .before .before .before .before .before .before .before .before .before .after-lines .kept)
+same-length-3 c = omega (arith, c .before .before .before .before .before .before .before .before .before .before .before .before .before .before .before .before .before .before .before .before .before .before .before .before .before .before .before .before .before .before .before .before .before .before .line-stage .kept, c .before .before .before .before .before .before .before .before .before .before .before .after-lines .kept)
 
 returns : tie.Need-returns
 returns c =
-    let a = c .before .before .before .before .before .before .before .before .before .before .before .before .before .before .before .before .before .before .before .before .before .before .before .before .before .before .before .before .before .before .before .before .before .before .before .before .before .before .before .before .before .before .before .before .before .before .before .before .args in
-    let pre = c .before .before .before .before .before .before .before .before .before .before .before .before .before .before .before .before .before .before .before .before .before .before .before .before .before .before .before .before .before .before .before .before .before .before .before .before .before .before .before .before .before .before .before .before .before .before .before .before .pre in
-    let of = c .before .before .before .before .before .before .before .before .before .before .before .before .before .before .before .before .before .before .before .before .before .before .before .before .before .before .before .before .before .before .before .before .before .before .before .before .before .before .before .before .before .of in
-    let r = c .before .before .before .before .before .before .before .before .before .before .after-lines in
+    let a = c .before .before .before .before .before .before .before .before .before .before .before .before .before .before .before .before .before .before .before .before .before .before .before .before .before .before .before .before .before .before .before .before .before .before .before .before .before .before .before .before .before .before .before .before .before .before .before .before .before .args in
+    let pre = c .before .before .before .before .before .before .before .before .before .before .before .before .before .before .before .before .before .before .before .before .before .before .before .before .before .before .before .before .before .before .before .before .before .before .before .before .before .before .before .before .before .before .before .before .before .before .before .before .before .pre in
+    let of = c .before .before .before .before .before .before .before .before .before .before .before .before .before .before .before .before .before .before .before .before .before .before .before .before .before .before .before .before .before .before .before .before .before .before .before .before .before .before .before .before .before .before .of in
+    let r = c .before .before .before .before .before .before .before .before .before .before .before .after-lines in
     let lent = lengths (buffers (now (a .words)) (now (a .data-bytes)) (now (a .labels)) (now (a .equates)) (now (a .items))) in
-    let q = lines-read (now (a .text)) (of .result) (a .base) _ _ _ _ _ _ _ _ _ (pre .1) (pre .0) (pre .2) (room-words _ lent (of .ensures)) (lineStage (of .result) 0 (linePieces 0 (lines (now (a .text)))) start) (rw (c .before .before .before .before .before .before .before .before .before .before .before .before .before .before .before .before .before .before .before .before .st .given .1) at (c .before .before .before .before .before .before .before .before .before .before .before .before .before .before .before .before .before .before .before .before .before .before .before .before .before .before .before .before .before .before .before .before .before .line-stage .ensures)) in
+    let q = lines-read (now (a .text)) (of .result) (a .base) _ _ _ _ _ _ _ _ _ (pre .1) (pre .0) (pre .2) (room-words _ lent (of .ensures)) (lineStage (of .result) 0 (linePieces 0 (lines (now (a .text)))) start) (rw (c .before .before .before .before .before .before .before .before .before .before .before .before .before .before .before .before .before .before .before .before .before .st .given .1) at (c .before .before .before .before .before .before .before .before .before .before .before .before .before .before .before .before .before .before .before .before .before .before .before .before .before .before .before .before .before .before .before .before .before .before .line-stage .ensures)) in
     lines-go (now (a .text)) (a .base) lent (of .result) (of .ensures) (q .state) (q .are) (buffers (r .last .1 .1 .1 .1 .1 .1 .1 .1 .1 .1 .0) (r .last .1 .1 .1 .1 .1 .1 .1 .1 .0) (r .last .1 .1 .1 .0) (r .last .1 .1 .1 .1 .1 .0) (r .last .1 .1 .1 .1 .1 .1 .1 .0)) (r .result) (r .ensures (record { room = _; state = q .state; read = q .read }))
 
 returns-2 : tie.Need-returns-2

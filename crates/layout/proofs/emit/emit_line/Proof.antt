@@ -1,27 +1,28 @@
 -- `emit::emit_line`: one word for an ordinary line, a pseudo's for the others.
+use Rattle.layout.proofs.ExpansionLaws.{operand-short}
 use borrow.Author.Needs.{needs}
 use Rattle.layout.proofs.emit.emit_line.Statement.{statement}
 use Rattle.layout.proofs.emit.emit_line.Tie as tie
 
 put-ordinary-requires : tie.Need-put-ordinary-requires
-put-ordinary-requires c κs = rw (c .before .enum-told .given .1) at (c .before .before .before .before .before .before .before .before .before .before .pre .2)
+put-ordinary-requires c κs = rw (c .before .enum-told .given .1) at (c .before .before .before .before .before .before .before .before .before .pre .1)
 
 put-ordinary-requires-2 : tie.Need-put-ordinary-requires-2
-put-ordinary-requires-2 c κs = rw (c .before .enum-told2 .given .1) at (c .before .before .before .before .before .before .before .before .before .before .pre .2)
+put-ordinary-requires-2 c κs = rw (c .before .enum-told2 .given .1) at (c .before .before .before .before .before .before .before .before .before .pre .1)
 
 emit-pseudo-requires : tie.Need-emit-pseudo-requires
 emit-pseudo-requires c κs =
-    let pre = c .before .before .before .before .before .before .before .before .before .before .before .before .before .pre in
-    let told = c .before .before .before .before .kind .given .1 in
-    rw (c .before .span-bytes .ensures) (pre .0, rw told at (pre .1), rw told at (pre .2))
+    let pre = c .before .before .before .before .before .before .before .before .before .before .before .pre in
+    let span = c .before .span-bytes in
+    (pre .0, operand-short _ _ _ _ (span .ensures) (pre .0 .stands .labels .table .text), rw (span .ensures) (rw (c .before .before .before .kind .given .1) at (pre .1)))
 
 returns : tie.Need-returns
 returns c = λ names stand. rw (c .before .before .before .before .enum-told .given .1) (c .before .before .put-ordinary .ensures)
 
 returns-2 : tie.Need-returns-2
 returns-2 c =
-    let call = c .before .before .before .before in
-    λ names stand. rw (call .before .before .before .before .before .kind .given .1) (rw (call .before .before .span-bytes .ensures) at (call .emit-pseudo .ensures names stand))
+    let call = c .before .before in
+    λ names stand. rw (call .before .before .before .before .kind .given .1) (rw (call .before .before .span-bytes .ensures) at (call .emit-pseudo .ensures names stand))
 
 returns-3 : tie.Need-returns-3
 returns-3 c = λ names stand. rw (c .before .before .before .before .enum-told2 .given .1) (c .before .before .put-ordinary2 .ensures)
@@ -40,7 +41,6 @@ emit-line-spec =
     (λ c. search needs)  -- same-length
     returns
     (λ c. search needs)  -- same-length-2
-    (λ c. search needs)  -- same-length-3
     returns-2
-    (λ c. search needs)  -- same-length-4
+    (λ c. search needs)  -- same-length-3
     returns-3)

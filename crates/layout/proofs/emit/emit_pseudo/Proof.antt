@@ -8,14 +8,14 @@ use Rattle.layout.proofs.emit.emit_pseudo.Tie as tie
 
 put-expansion-requires : tie.Need-put-expansion-requires
 put-expansion-requires c κs =
-    let e = c .before .before .before .expand in
-    let pre = c .before .before .before .before .before .before .before .before .before .before .before .before .before .pre in
+    let e = c .before .expand in
+    let pre = c .before .before .before .before .before .before .before .before .before .pre in
     let names = pre .0 .it in
     expansion-room (constant (names .known)) (labelAddress (names .base) (names .state)) _ _ (e .result .slots) (e .result .count) _ (e .ensures names (pre .0 .stands)) (pre .2)
 
 returns : tie.Need-returns
 returns c =
-    λ names stand. rw (c .before .before .before .before .before .before .expand .ensures names stand) at (c .before .before .put-expansion .ensures)
+    λ names stand. rw (c .before .before .before .before .expand .ensures names stand) at (c .before .before .put-expansion .ensures)
 
 pub emit-pseudo-spec : {M : Type 1} → statement M
 emit-pseudo-spec =
@@ -24,5 +24,4 @@ emit-pseudo-spec =
     (λ c κs. search needs)  -- expand-requires
     put-expansion-requires
     (λ c. search needs)  -- same-length
-    (λ c. search needs)  -- same-length-2
     returns)

@@ -2,6 +2,7 @@
 use Prim.Native.Nat.{_≤_}
 use lib.ListN.{length}
 use denote.Ref.{now}
+use Rattle.layout.specs.Limits.{textLimit}
 use Rattle.layout.specs.code.Steps.{Some}
 use Rattle.layout.specs.code.Tables.{LabelsIndexed}
 use Rattle.layout.specs.code.Names.{EquateTable}
@@ -14,9 +15,9 @@ use Rattle.layout.proofs.expansions.expand.Tie as tie
 -- what each of them asks
 module _ (c : tie.After-operands-text) where
   abbrev start : tie.Start
-  start = c .before .before .before .before .before .before .before .before
+  start = c .before .before .before .before .before .before .before
 
-  short : length (now (c .operands-text .result)) ≤ length (now (start .args .scratch))
+  short : length (now (c .operands-text .result)) ≤ textLimit
   short = after-short _ (now (start .args .s)) _ (c .operands-text .ensures) (start .pre .1)
 
   indexed : LabelsIndexed (now (start .args .text)) (now (start .args .labels)) (now (start .args .label-index)) (start .args .label-count)
@@ -26,29 +27,29 @@ module _ (c : tie.After-operands-text) where
   known = record { it = start .pre .0 .it .known; stands = start .pre .0 .stands .equates }
 
 parse-li-requires : tie.Need-parse-li-requires
-parse-li-requires c κs = let at = c .before .before .before in (known at, short at)
+parse-li-requires c κs = let at = c .before .before in (known at, short at)
 
 parse-la-requires : tie.Need-parse-la-requires
-parse-la-requires c κs = let at = c .before .before .before in (indexed at, short at)
+parse-la-requires c κs = let at = c .before .before in (indexed at, short at)
 
 parse-print-str-requires : tie.Need-parse-print-str-requires
-parse-print-str-requires c κs = let at = c .before .before .before in (indexed at, short at)
+parse-print-str-requires c κs = let at = c .before .before in (indexed at, short at)
 
 parse-read-requires : tie.Need-parse-read-requires
-parse-read-requires c κs = let at = c .before .before .before in (indexed at, short at)
+parse-read-requires c κs = let at = c .before .before in (indexed at, short at)
 
 parse-read-byte-requires : tie.Need-parse-read-byte-requires
-parse-read-byte-requires c κs = let at = c .before .before .before in (indexed at, short at)
+parse-read-byte-requires c κs = let at = c .before .before in (indexed at, short at)
 
 returns : tie.Need-returns
 returns c =
-    λ names stand. of-source _ _ _ (c .before .before .before .before .enum-told .given .1) (c .before .before .before .before .before .before .operands-text .ensures)
-    (c .before .before .parse-li .ensures (names .known) (stand .equates) _)
+    λ names stand. of-source _ _ _ (c .before .enum-told .given .1) (c .before .before .before .operands-text .ensures)
+    (c .parse-li .ensures (names .known) (stand .equates) _)
 
 returns-2 : tie.Need-returns-2
 returns-2 c =
-    λ names stand. of-source _ _ _ (c .before .before .before .before .enum-told2 .given .1) (c .before .before .before .before .before .before .operands-text .ensures)
-    (c .before .before .parse-la .ensures (names .base) (names .state) (stand .labels) _)
+    λ names stand. of-source _ _ _ (c .before .enum-told2 .given .1) (c .before .before .before .operands-text .ensures)
+    (c .parse-la .ensures (names .base) (names .state) (stand .labels) _)
 
 returns-3 : tie.Need-returns-3
 returns-3 c = λ names stand. of-source _ _ _ (c .before .enum-told3 .given .1) (c .before .before .before .operands-text .ensures) (c .parse-push .ensures _ _)
@@ -61,18 +62,18 @@ returns-5 c = λ names stand. of-source _ _ _ (c .before .enum-told5 .given .1) 
 
 returns-6 : tie.Need-returns-6
 returns-6 c =
-    λ names stand. of-source _ _ _ (c .before .before .before .before .enum-told6 .given .1) (c .before .before .before .before .before .before .operands-text .ensures)
-    (c .before .before .parse-print-str .ensures (names .base) (names .state) (stand .labels) _)
+    λ names stand. of-source _ _ _ (c .before .enum-told6 .given .1) (c .before .before .before .operands-text .ensures)
+    (c .parse-print-str .ensures (names .base) (names .state) (stand .labels) _)
 
 returns-7 : tie.Need-returns-7
 returns-7 c =
-    λ names stand. of-source _ _ _ (c .before .before .before .before .enum-told7 .given .1) (c .before .before .before .before .before .before .operands-text .ensures)
-    (c .before .before .parse-read .ensures (names .base) (names .state) (stand .labels) _)
+    λ names stand. of-source _ _ _ (c .before .enum-told7 .given .1) (c .before .before .before .operands-text .ensures)
+    (c .parse-read .ensures (names .base) (names .state) (stand .labels) _)
 
 returns-8 : tie.Need-returns-8
 returns-8 c =
-    λ names stand. of-source _ _ _ (c .before .before .before .before .enum-told8 .given .1) (c .before .before .before .before .before .before .operands-text .ensures)
-    (c .before .before .parse-read-byte .ensures (names .base) (names .state) (stand .labels) _)
+    λ names stand. of-source _ _ _ (c .before .enum-told8 .given .1) (c .before .before .before .operands-text .ensures)
+    (c .parse-read-byte .ensures (names .base) (names .state) (stand .labels) _)
 
 returns-9 : tie.Need-returns-9
 returns-9 c = λ names stand. of-source _ _ _ (c .before .enum-told9 .given .1) (c .before .before .before .operands-text .ensures) (c .parse-random .ensures _ _)
@@ -100,17 +101,12 @@ expand-spec =
     parse-read-byte-requires
     (λ c. search needs)  -- enum-told-9
     (λ c κs. search needs)  -- parse-random-requires
-    (λ c. search needs)  -- same-length
     returns
-    (λ c. search needs)  -- same-length-2
     returns-2
     returns-3
     returns-4
     returns-5
-    (λ c. search needs)  -- same-length-3
     returns-6
-    (λ c. search needs)  -- same-length-4
     returns-7
-    (λ c. search needs)  -- same-length-5
     returns-8
     returns-9)

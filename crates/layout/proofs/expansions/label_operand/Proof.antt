@@ -11,20 +11,20 @@ returns c = λ base σ placed f. only-wrong _ _ _ _ (c .before .before .only-nam
 
 operand-address-requires : tie.Need-operand-address-requires
 operand-address-requires c κs =
-    let pre = c .before .before .before .before .before .before .before .before .before .before .before .pre in
+    let pre = c .before .before .before .before .before .before .before .before .before .pre in
     (pre .0, operand-short _ _ _ _ (c .span-bytes .ensures) (pre .1))
 
 returns-2 : tie.Need-returns-2
 returns-2 c =
-    let at = c .before .before .before .before in
-    let only = at .before .before .before .before in
+    let at = c .before .before in
+    let only = at .before .before .before in
     λ base σ placed f. label-none _ _ (labelAddress base σ) _ (at .operand-address .ensures base σ placed) (at .before .span-bytes .ensures) f (c .enum-told2 .given .1)
     ∙ only-at _ _ _ _ (only .before .before .only-name .ensures _) _ (only .operand .given .1)
 
 returns-3 : tie.Need-returns-3
 returns-3 c =
-    let at = c .before .before .before .before .before in
-    let only = at .before .before .before .before in
+    let at = c .before .before .before in
+    let only = at .before .before .before in
     λ base σ placed f. label-some _ _ (labelAddress base σ) _ (at .operand-address .ensures base σ placed) (at .before .span-bytes .ensures) f _ (c .before .a .given .1)
     ∙ only-at _ _ _ _ (only .before .before .only-name .ensures _) _ (only .operand .given .1)
 
@@ -40,7 +40,5 @@ label-operand-spec =
     operand-address-requires
     (λ c. search needs)  -- enum-known-a
     (λ c. search needs)  -- enum-told-2
-    (λ c. search needs)  -- same-length
     returns-2
-    (λ c. search needs)  -- same-length-2
     returns-3)

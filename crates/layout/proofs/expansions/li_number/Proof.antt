@@ -18,8 +18,8 @@ returns c =
 returns-2 : tie.Need-returns-2
 unfolding spacedImmOf
 returns-2 c =
-    let told = c .before .before .before .before in
-    λ ks table f. c .before .before .operand-constant .ensures ks table f
+    let told = c .before in
+    λ ks table f. c .operand-constant .ensures ks table f
     ∙ rw (sym (told .before .before .parse-imm-one-spaced .ensures) ∙ ap immValue (told .enum-told .given .1)) refl
 
 pub li-number-spec : {M : Type 1} → statement M
@@ -31,5 +31,4 @@ li-number-spec =
     (λ c. search needs)  -- enum-told
     (λ c κs. search needs)  -- operand-constant-requires
     returns
-    (λ c. search needs)  -- same-length
     returns-2)

@@ -1,34 +1,26 @@
--- `expansions::operand_address`: the name that is looked up is the operand as it is written.
+-- `expansions::operand_address`: an operand without white space is itself what is looked up.
 use denote.Ref.{now}
-use Rattle.numbers.specs.Text.{oneSpaced}
-use Rattle.layout.proofs.ExpansionLaws.{written-within, written-counted, written-back}
+use mathlib.Core.Path.{sym, _∙_}
+use Rattle.layout.proofs.ExpansionLaws.{unspaced}
 use borrow.Author.Needs.{needs}
 use Rattle.layout.proofs.expansions.operand_address.Statement.{statement}
 use Rattle.layout.proofs.expansions.operand_address.Tie as tie
 
-slice-reshare-prefix-label-address : tie.Need-slice-reshare-prefix-label-address
-slice-reshare-prefix-label-address c =
-    let a = c .before .before .before .before .before .before .before .before .before .args in
-    written-within (oneSpaced (now (a .operand))) (now (a .scratch)) _ _ (c .before .before .put-one-spaced .ensures)
-
-slice-aggregate-label-address : tie.Need-slice-aggregate-label-address
-slice-aggregate-label-address c =
-    let a = c .before .before .before .before .before .before .before .before .before .before .args in
-    written-counted (oneSpaced (now (a .operand))) (now (a .scratch)) _ _ (c .before .before .before .put-one-spaced .ensures)
-
 returns : tie.Need-returns
 returns c =
-    let a = c .before .before .before .before .before .before .before .before .before .before .before .args in
-    let name = written-back (oneSpaced (now (a .operand))) (now (a .scratch)) _ _ (c .before .before .before .before .put-one-spaced .ensures) in
-    λ base σ placed. rw name at (c .label-address .ensures base σ placed)
+    let a = c .before .before .before .before .before .before .before .args in
+    λ base σ placed. rw (unspaced (now (a .operand)) (sym (c .before .before .word-len .ensures) ∙ c .before .if1 .taken)) (c .label-address .ensures base σ placed)
 
 pub operand-address-spec : {M : Type 1} → statement M
 operand-address-spec =
     tie.close
     (tie.spec
-    (λ c κs. search needs)  -- put-one-spaced-requires
-    slice-reshare-prefix-label-address
-    slice-aggregate-label-address
+    (λ c κs. search needs)  -- word-len-requires
     (λ c κs. search needs)  -- label-address-requires
-    (λ c. search needs)  -- same-length
-    returns)
+    returns
+    (λ c. search needs)  -- slice-aggregate-spaced-address
+    (λ c κs. search needs)  -- spaced-address-requires
+    (λ c. search needs)  -- returns-2
+    (λ c. search needs)  -- slice-aggregate-spaced-address-2
+    (λ c κs. search needs)  -- spaced-address-requires-2
+    (λ c. search needs))  -- returns-3

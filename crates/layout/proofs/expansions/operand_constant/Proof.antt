@@ -1,34 +1,26 @@
--- `expansions::operand_constant`: the name that is looked up is the operand as it is written.
+-- `expansions::operand_constant`: an operand without white space is itself what is looked up.
 use denote.Ref.{now}
-use Rattle.numbers.specs.Text.{oneSpaced}
-use Rattle.layout.proofs.ExpansionLaws.{written-within, written-counted, written-back}
+use mathlib.Core.Path.{sym, _∙_}
+use Rattle.layout.proofs.ExpansionLaws.{unspaced}
 use borrow.Author.Needs.{needs}
 use Rattle.layout.proofs.expansions.operand_constant.Statement.{statement}
 use Rattle.layout.proofs.expansions.operand_constant.Tie as tie
 
-slice-reshare-prefix-li-constant : tie.Need-slice-reshare-prefix-li-constant
-slice-reshare-prefix-li-constant c =
-    let a = c .before .before .before .before .before .before .before .before .before .args in
-    written-within (oneSpaced (now (a .operand))) (now (a .scratch)) _ _ (c .before .before .put-one-spaced .ensures)
-
-slice-aggregate-li-constant : tie.Need-slice-aggregate-li-constant
-slice-aggregate-li-constant c =
-    let a = c .before .before .before .before .before .before .before .before .before .before .args in
-    written-counted (oneSpaced (now (a .operand))) (now (a .scratch)) _ _ (c .before .before .before .put-one-spaced .ensures)
-
 returns : tie.Need-returns
 returns c =
-    let a = c .before .before .before .before .before .before .before .before .before .before .before .args in
-    let name = written-back (oneSpaced (now (a .operand))) (now (a .scratch)) _ _ (c .before .before .before .before .put-one-spaced .ensures) in
-    λ ks table f. rw name at (c .li-constant .ensures ks table f)
+    let a = c .before .before .before .before .before .before .before .args in
+    λ ks table f. rw (unspaced (now (a .operand)) (sym (c .before .before .word-len .ensures) ∙ c .before .if1 .taken)) (c .li-constant .ensures ks table f)
 
 pub operand-constant-spec : {M : Type 1} → statement M
 operand-constant-spec =
     tie.close
     (tie.spec
-    (λ c κs. search needs)  -- put-one-spaced-requires
-    slice-reshare-prefix-li-constant
-    slice-aggregate-li-constant
+    (λ c κs. search needs)  -- word-len-requires
     (λ c κs. search needs)  -- li-constant-requires
-    (λ c. search needs)  -- same-length
-    returns)
+    returns
+    (λ c. search needs)  -- slice-aggregate-spaced-constant
+    (λ c κs. search needs)  -- spaced-constant-requires
+    (λ c. search needs)  -- returns-2
+    (λ c. search needs)  -- slice-aggregate-spaced-constant-2
+    (λ c κs. search needs)  -- spaced-constant-requires-2
+    (λ c. search needs))  -- returns-3

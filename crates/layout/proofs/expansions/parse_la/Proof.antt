@@ -13,14 +13,14 @@ returns c = λ base σ placed const. c .refused .ensures ∙ load-wrong _ _ _ _ 
 
 operand-address-requires : tie.Need-operand-address-requires
 operand-address-requires c κs =
-    let pre = c .before .before .before .before .before .before .before .before .before .before .before .pre in
+    let pre = c .before .before .before .before .before .before .before .before .before .pre in
     (pre .0, operand-short _ _ _ _ (c .span-bytes .ensures) (pre .1))
 
 returns-2 : tie.Need-returns-2
 unfolding expansion
 returns-2 c =
-    let at = c .before .before .before .before .before in
-    let into = at .before .before .before .before in
+    let at = c .before .before .before in
+    let into = at .before .before .before in
     λ base σ placed const. c .refused2 .ensures
     ∙ label-none _ _ (labelAddress base σ) _ (at .operand-address .ensures base σ placed) (at .before .span-bytes .ensures) _ (c .before .enum-told2 .given .1)
     ∙ load-into _ _ _ _ (into .before .before .load-operands .ensures _) _ _ (into .rd .given .1)
@@ -28,8 +28,8 @@ returns-2 c =
 returns-3 : tie.Need-returns-3
 unfolding expansion
 returns-3 c =
-    let at = c .before .before .before .before .before .before in
-    let into = at .before .before .before .before in
+    let at = c .before .before .before .before in
+    let into = at .before .before .before in
     λ base σ placed const. c .load-word .ensures
     ∙ label-some _ _ (labelAddress base σ) _ (at .operand-address .ensures base σ placed) (at .before .span-bytes .ensures) _ _ (c .before .before .a .given .1)
     ∙ load-into _ _ _ _ (into .before .before .load-operands .ensures _) _ _ (into .rd .given .1)
@@ -48,8 +48,6 @@ parse-la-spec =
     (λ c. search needs)  -- enum-known-a
     (λ c. search needs)  -- enum-told-2
     (λ c κs. search needs)  -- refused-requires-2
-    (λ c. search needs)  -- same-length
     returns-2
     (λ c κs. search needs)  -- load-word-requires
-    (λ c. search needs)  -- same-length-2
     returns-3)

@@ -16,14 +16,14 @@ returns c = λ ks table label. c .refused .ensures ∙ load-wrong _ _ _ _ (c .be
 
 li-number-requires : tie.Need-li-number-requires
 li-number-requires c κs =
-    let pre = c .before .before .before .before .before .before .before .before .before .before .before .pre in
+    let pre = c .before .before .before .before .before .before .before .before .before .pre in
     (pre .0, operand-short _ _ _ _ (c .span-bytes .ensures) (pre .1))
 
 returns-2 : tie.Need-returns-2
 unfolding expansion
 returns-2 c =
-    let at = c .before .before .before .before .before in
-    let into = at .before .before .before .before in
+    let at = c .before .before .before in
+    let into = at .before .before .before in
     λ ks table label. c .refused2 .ensures
     ∙ imm-none _ _ (constant ks) _ _ (at .li-number .ensures ks table _) (at .before .span-bytes .ensures) (c .before .enum-told2 .given .1)
     ∙ load-into _ _ _ _ (into .before .before .load-operands .ensures _) _ _ (into .rd .given .1)
@@ -31,8 +31,8 @@ returns-2 c =
 returns-3 : tie.Need-returns-3
 unfolding expansion
 returns-3 c =
-    let at = c .before .before .before .before .before .before in
-    let into = at .before .before .before .before in
+    let at = c .before .before .before .before in
+    let into = at .before .before .before in
     let fit : SFits w32 (c .before .before .v .given .0 .0) = search needs in
     λ ks table label. (rw (toZ-ofZ fit) at (c .load-number .ensures))
     ∙ imm-some _ _ (constant ks) _ _ (at .li-number .ensures ks table _) (at .before .span-bytes .ensures) _ (c .before .before .v .given .1)
@@ -52,8 +52,6 @@ parse-li-spec =
     (λ c. search needs)  -- enum-known-v
     (λ c. search needs)  -- enum-told-2
     (λ c κs. search needs)  -- refused-requires-2
-    (λ c. search needs)  -- same-length
     returns-2
     (λ c κs. search needs)  -- load-number-requires
-    (λ c. search needs)  -- same-length-2
     returns-3)

@@ -10,14 +10,14 @@ returns : tie.Need-returns
 unfolding expansion
 returns c =
     λ base σ placed const. c .refused .ensures
-    ∙ target-refused _ _ _ (c .before .before .before .before .before .before .label-operand .ensures base σ placed _) _ (c .before .before .number .given .1)
+    ∙ target-refused _ _ _ (c .before .before .before .before .label-operand .ensures base σ placed _) _ (c .before .before .number .given .1)
 
 returns-2 : tie.Need-returns-2
 unfolding expansion
 returns-2 c =
     let found = c .before .before in
     λ base σ placed const. c .print-str .ensures
-    ∙ target-at _ _ _ (found .before .before .before .before .label-operand .ensures base σ placed _) _ (found .a .given .1)
+    ∙ target-at _ _ _ (found .before .before .label-operand .ensures base σ placed _) _ (found .a .given .1)
 
 pub parse-print-str-spec : {M : Type 1} → statement M
 parse-print-str-spec =
@@ -28,7 +28,5 @@ parse-print-str-spec =
     (λ c κs. search needs)  -- refused-requires
     (λ c. search needs)  -- enum-known-a
     (λ c κs. search needs)  -- print-str-requires
-    (λ c. search needs)  -- same-length
     returns
-    (λ c. search needs)  -- same-length-2
     returns-2)
