@@ -60,6 +60,8 @@ const KINDS: &[Kind] = &[
     ("random", "2,048 `random`, of eight words each", Goal::Worst, random),
     ("print-str", "1,489 `print_str`, of eleven words each", Goal::Worst, print_str),
     ("la", "1,024 labels, 2,048 `la` of them", Goal::Worst, la_of_labels),
+    ("la-spaced", "2,048 `la` of a name with a tab for its space", Goal::Worst, la_spaced),
+    ("la-spaced-long", "`la` of a name of 1,200 bytes with a tab for its space", Goal::Worst, la_spaced_long),
     ("li-equates", "256 equates, 2,048 `li` of them", Goal::Worst, li_of_equates),
     ("decimal-bytes", "decimal bytes", Goal::Worst, decimal_bytes),
     ("hex-bytes", "hexadecimal bytes", Goal::Worst, hex_bytes),
@@ -244,6 +246,18 @@ fn la_of_labels() -> String {
             "label_{k}:\n    la a0, label_{k}\n    la a1, label_{}\n",
             LABEL_LIMIT - 1 - k
         )
+    })
+}
+
+/// A pseudo's white space is made one space before its label is looked up.
+fn la_spaced() -> String {
+    "a b:\n".to_string() + &counted(ITEM_LIMIT, |_| "    la a0, a\tb\n".to_string())
+}
+
+fn la_spaced_long() -> String {
+    let name = "b".repeat(1198);
+    extended(format!("a {name}:\n"), TEXT_LIMIT, |_| {
+        format!("    la a0, a\t{name}\n")
     })
 }
 
