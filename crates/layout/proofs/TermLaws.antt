@@ -1,27 +1,34 @@
 -- Expressions term by term: the signs, the term, what joins the next one; and the sum from a place on is the whole text's, whatever other
 -- names get values.
-use Prim.Native.Nat.{ℕ, _≤_}
+use Prim.Native.Nat.{ℕ, _+_, _-_, _≤_, _<_}
 use native.Mathlib.Omega.{arith}
 use mathlib.Core.Path.{_≡_, refl, sym, ap, _∙_}
 use mathlib.Core.List.{List, [], _∷_}
-use mathlib.Core.Bool.{Bool, true, false, not, false≢true}
+use mathlib.Core.Bool.{Bool, true, false, not, _&&_, false≢true}
 use mathlib.Core.Option.{Option, none, some}
-use lib.ListN.{length}
+use lib.Dec.{eqb}
+use lib.ListN.{length, take, drop, getD}
 use lib.IntN.{ℤ, pos, _+ℤ_}
 use Rattle.numbers.specs.Results.{value, refused}
+use Rattle.numbers.specs.Text.{leading}
+use Rattle.numbers.specs.Numbers.{numberOf}
 use Rattle.numbers.specs.Ints.{fit64, signTimes}
 use Rattle.numbers.specs.declared.ints.Checked.{Checked}
 use Rattle.numbers.specs.declared.ints.Checked.the-variants.{Fits, Beyond}
 use Rattle.numbers.specs.code.Meanings.{checkedValue}
 use Rattle.layout.specs.declared.tokens.Token as code
 use Rattle.layout.specs.declared.tokens.Token.the-variants as kind
+use Rattle.layout.specs.declared.tokens.TokenAt.the-variants.{At, End}
 use Rattle.layout.specs.declared.expr.Evaluated as answer
 use Rattle.layout.specs.declared.expr.Evaluated.the-variants.{Value, Waits, Refused}
+use Rattle.layout.specs.Bytes.{isDigit}
 use Rattle.layout.specs.Expressions.{Token, plus, minus, dot, number, name, unreadable, Evaluated, positive, negative, term, joint}
-use Rattle.layout.specs.Expressions.{tokens, anyUnreadable, addTerm, onName, sumFrom, evaluate}
-use Rattle.layout.specs.code.Tokens.{tokenOf, spacedIn, tokensFrom, TokenLeads}
+use Rattle.layout.specs.Expressions.{isNameByte, isNumberByte, tokens, anyUnreadable, addTerm, onName, sumFrom, evaluate}
+use Rattle.layout.specs.code.Tokens.{tokenOf, numeral, TokenStands, spacedIn, blankIn, tokensFrom, TokenLeads}
 use Rattle.layout.specs.code.Terms.{ownSign, unsigned, IsOperand, TermStands, NoTerm, termValue, AddsTerm, NoJoint, JointStands}
 use Rattle.layout.specs.code.Terms.{isUnknown, operandWaits, termWaits, Extends, Waiting, Evaluates, sumOf, evaluationOf}
+use Rattle.layout.proofs.TokenLaws.{plus-stands, minus-stands, number-stands, other-stands, dot-stands, name-stands}
+use Rattle.layout.proofs.SpacedTokens.{from-here}
 use Rattle.layout.proofs.SumLaws.{valued-readable}
 
 -- ---- signs
@@ -170,16 +177,19 @@ module _ (sum : ℤ) (joining own : Bool) (v : ℤ) where
 
 -- ---- what joins the next term
 
-module _ (oneSpace : Bool) (s : List ℕ) (at : ℕ) (t : code.Token) (after : ℕ) where
-  pub joint-plus : TokenLeads oneSpace s at t after → t ≡ kind.Plus → JointStands oneSpace s at plus after
-  joint-plus l e = record { leads = l .leads ∙ rw e refl; further = l .further; within = l .within }
+-- after the blanks from a place on, at k
+module _ (oneSpace : Bool) (s : List ℕ) (at k : ℕ) (e : k ≡ at + leading (blankIn oneSpace) (drop at s)) where
+  pub joint-end : length s ≤ k → tokensFrom oneSpace s at ≡ []
+  joint-end h = from-here oneSpace s at k e End h
 
-  pub joint-minus : TokenLeads oneSpace s at t after → t ≡ kind.Minus → JointStands oneSpace s at minus after
-  joint-minus l e = record { leads = l .leads ∙ rw e refl; further = l .further; within = l .within }
+  operator-stands : (t : code.Token) (after : ℕ) → TokenStands s k t after → JointStands oneSpace s at (tokenOf s t) after
+  operator-stands t after w =
+      let l = from-here oneSpace s at k e (At t after) w in
+      record { leads = l .leads; further = l .further; within = l .within }
 
-  -- any other token joins nothing
-  pub joint-other : (u : code.Token) → TokenLeads oneSpace s at t after → t ≡ u → NoJoint (tokenOf s u ∷ []) → NoJoint (tokensFrom oneSpace s at)
-  joint-other u l e n = rw (l .leads, e) (alone (tokenOf s u) (tokensFrom oneSpace s after) n)
+  -- a token that is no operator, whatever stands behind it
+  no-operator : (t : code.Token) (after : ℕ) → TokenStands s k t after → NoJoint (tokenOf s t ∷ []) → NoJoint (tokensFrom oneSpace s at)
+  no-operator t after w n = rw (operator-stands t after w .leads) (alone (tokenOf s t) (tokensFrom oneSpace s after) n)
     where
       alone : (x : Token) (ts : List Token) → NoJoint (x ∷ []) → NoJoint (x ∷ ts)
       alone plus ts n = n
@@ -188,6 +198,33 @@ module _ (oneSpace : Bool) (s : List ℕ) (at : ℕ) (t : code.Token) (after : �
       alone (number z) ts n = n
       alone (name y) ts n = n
       alone unreadable ts n = n
+
+  module _ (h : k < length s) where
+    pub joint-plus : getD s k 0 ≡ 43 → JointStands oneSpace s at plus (k + 1)
+    joint-plus q = operator-stands kind.Plus (k + 1) (plus-stands s k h q)
+
+    pub joint-minus : getD s k 0 ≡ 45 → JointStands oneSpace s at minus (k + 1)
+    joint-minus q = operator-stands kind.Minus (k + 1) (minus-stands s k h q)
+
+    -- any other byte begins a token that joins nothing
+    pub joint-other : (getD s k 0 ≡ 43 → ⊥) → (getD s k 0 ≡ 45 → ⊥) → NoJoint (tokensFrom oneSpace s at)
+    joint-other p m = by (isDigit (getD s k 0)) refl (isNameByte (getD s k 0)) refl (eqb (getD s k 0) 46 && eqb (end - k) 1) refl
+      where
+        end : ℕ
+        end = k + leading isNameByte (drop k s)
+
+        numeral-joins : (o : Option ℤ) → NoJoint (tokenOf s (numeral o) ∷ [])
+        numeral-joins none = tt
+        numeral-joins (some z) = tt
+
+        by : (d : Bool) → isDigit (getD s k 0) ≡ d → (n : Bool) → isNameByte (getD s k 0) ≡ n → (o : Bool) → eqb (getD s k 0) 46 && eqb (end - k) 1 ≡ o
+            → NoJoint (tokensFrom oneSpace s at)
+        by true d n f o q =
+            let stop = k + leading isNumberByte (drop k s) in
+            no-operator _ stop (number-stands s k h d stop refl _ refl) (numeral-joins (numberOf (take (stop - k) (drop k s))))
+        by false d false f o q = no-operator _ _ (other-stands s k h p m d f) tt
+        by false d true f true q = no-operator _ end (dot-stands s k h p m d f end refl q) tt
+        by false d true f false q = no-operator _ end (name-stands s k h p m d f end refl q) tt
 
 -- ---- a term that waits
 

@@ -6,6 +6,7 @@ use crate::equates::constant;
 use crate::reader::token_of;
 use crate::tokens::Token;
 use crate::tokens::TokenAt;
+use crate::tokens::skip_blanks;
 use numbers::ints::Checked;
 use numbers::ints::checked_add;
 use numbers::ints::checked_sign;
@@ -216,17 +217,17 @@ enum Joint {
 fn operator_at(s: &[u8], at: usize, one_space: bool) -> Joint
     ensures { λ r. ⌜ JointFrom «one_space» (now (s .entry)) at r ⌝ }
 {
-    let TokenAt::At(token, after) = token_of(s, at, one_space) else {
+    let i = skip_blanks(s, at, one_space);
+    if s.len() <= i {
         return Joint::End;
-    };
-    match token {
-        Token::Plus => Joint::Plus(after),
-        Token::Minus => Joint::Minus(after),
-        Token::Dot => Joint::Malformed,
-        Token::Number(_) => Joint::Malformed,
-        Token::Name(_) => Joint::Malformed,
-        Token::Unreadable => Joint::Malformed,
     }
+    if s[i] == b'+' {
+        return Joint::Plus(i + 1);
+    }
+    if s[i] == b'-' {
+        return Joint::Minus(i + 1);
+    }
+    Joint::Malformed
 }
 
 // The sum of an expression's terms, as far as it goes.

@@ -70,7 +70,7 @@ fn is_blank_in(b: u8, one_space: bool) -> bool
 }
 
 // The place of the first byte from a place on that is no blank.
-fn skip_blanks(s: &[u8], at: usize, one_space: bool) -> usize
+pub fn skip_blanks(s: &[u8], at: usize, one_space: bool) -> usize
     ensures { λ r. ⌜ r ≡ at + leading (blankIn «one_space») (drop at (now (s .entry))) ⌝ }
 {
     let mut i = at;
