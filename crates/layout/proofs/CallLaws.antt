@@ -88,8 +88,8 @@ after-symbols base σ = by (fill (labelAddress base σ) (σ .rest .own .stored .
 
 module _ {t : List ℕ} {base : ℕ} {st : Counters} {l n e x i d lw w : List ℕ} {k : Room} {σ : State}
     (s : LinesRead t base st l n e x i d lw w k σ) where
-  -- symbols can be resolved, with an index and waits of zeros
-  pub symbols-ready : SymbolsStand t base st l n e (replicate 1280 0) x (replicate 256 0) d lw k σ
+  -- symbols can be resolved, with an index and partial sums of zeros
+  pub symbols-ready : SymbolsStand t base st l n e (replicate 1280 0) x (replicate 512 0) d lw k σ
   symbols-ready =
       record {
         text = s .text;
@@ -99,7 +99,7 @@ module _ {t : List ℕ} {base : ℕ} {st : Counters} {l n e x i d lw w : List �
         stored = s .stands .rest .own .stored;
         index = indexed-none 1280 (omega arith);
         index-room = omega (arith, length-replicate {A = ℕ} 1280 0);
-        waits-room = omega (arith, length-replicate {A = ℕ} 256 0);
+        waits-room = omega (arith, length-replicate {A = ℕ} 512 0);
       }
 
   -- what the sections' starts ask

@@ -13,14 +13,15 @@ use lib.Seq.{set-at, getD-set-same, getD-set-other, getD-append-seam}
 use borrow.Author.Tests.{eq-eqb, ne-eqb}
 use Rattle.numbers.specs.Results.{Result, value, refused, andThen}
 use Rattle.numbers.specs.Text.{same}
-use Rattle.numbers.specs.Ints.{in64}
+use Rattle.numbers.specs.Ints.{in64, bits, signedOf}
 use Rattle.numbers.proofs.Bools.{none-some}
 use Rattle.numbers.proofs.Prefixes.{same-equal}
 use Rattle.layout.specs.declared.addresses.Starts.{Starts}
+use Rattle.layout.specs.declared.expr.Partial.{Partial}
 use Rattle.layout.specs.declared.expr.Evaluated as answer
 use Rattle.layout.specs.Refusals.{Refusal, atLine}
 use Rattle.layout.specs.Bytes.{put, padded, together}
-use Rattle.layout.specs.Limits.{textLimit, equateSize, equateLimit}
+use Rattle.layout.specs.Limits.{equateSize, equateLimit}
 use Rattle.layout.specs.Statements.{exprText}
 use Rattle.layout.specs.State.{Equate, State}
 use Rattle.layout.specs.Stage.{isLabel}
@@ -36,15 +37,15 @@ use Rattle.layout.specs.code.Placed.{StartsAt, LabelsPlaced}
 use Rattle.layout.specs.code.Names.{knownFields, knownName, FoundFits, KnownFits, EquateTable, Scope}
 use Rattle.layout.specs.code.Terms.{Extends}
 use Rattle.layout.specs.code.Resolves.{TurnAgain, TurnGives}
-use Rattle.layout.specs.code.Resolves.{knownExpr, TurnStand, noKnown, knownAt, equateIn, Blocked, RoundsStand}
+use Rattle.layout.specs.code.Resolves.{knownExpr, TurnStand, noKnown, knownAt, equateIn, Blocked, partialAt, putPartial, RoundsStand}
 use Rattle.layout.proofs.Each.{each-at}
 use Rattle.layout.proofs.TableLaws.{table-set}
 use Rattle.layout.proofs.IndexLaws.{by-equal}
 use Rattle.layout.proofs.TermLaws.{extends-trans}
-use Rattle.layout.proofs.KnownLaws.{known-sized, constant-append, name-start, name-len, line-back, pending-at, found-at, fits-at}
+use Rattle.layout.proofs.KnownLaws.{known-sized, constant-append, name-start, name-len, line-back, pending-at, found-at}
 use Rattle.layout.proofs.RoundHistory.{pending-all, equates-all}
 use Rattle.layout.proofs.ResolveLaws.{no-address}
-use Rattle.layout.proofs.Fields.{ValueFits, turn-fits}
+use Rattle.layout.proofs.Fields.{ValueFits, turn-fits, signed-back}
 
 -- ---- a turn
 
@@ -124,11 +125,11 @@ module _ (base : ℕ) (σ : State) (done : List Known) (k : Known) (rest : List 
       by true e = absurd (none-some (sym (was-none n e) ∙ q))
       by false e = ap (λ (o : Option ℤ). orElse o (asNumber (labelAddress base σ n))) (is-same n e) ∙ q
 
--- what waits goes on to wait as other names get values
-blocked-later : (base : ℕ) (σ : State) (ks ls : List Known) → Extends (look base σ ks) (look base σ ls) → (e : Equate) (at : ℕ)
-    → Blocked (record { base = base; state = σ; known = ks }) e at → Blocked (record { base = base; state = σ; known = ls }) e at
-blocked-later base σ ks ls x e at b =
-    record { no-label = b .no-label; within = b .within; waits = λ ms y c h. b .waits ms (extends-trans (look base σ ks) (look base σ ls) (look base σ ms) x y) c h }
+-- what has waited goes on from there, whatever other names have got values
+blocked-later : (base : ℕ) (σ : State) (ks ls : List Known) → Extends (look base σ ks) (look base σ ls) → (e : Equate) (p : Partial)
+    → Blocked (record { base = base; state = σ; known = ks }) e p → Blocked (record { base = base; state = σ; known = ls }) e p
+blocked-later base σ ks ls x e p b =
+    record { no-label = b .no-label; goes = λ ms y c. b .goes ms (extends-trans (look base σ ks) (look base σ ls) (look base σ ms) x y) c }
 
 -- ---- a round, equate by equate
 
@@ -227,9 +228,32 @@ table-found t b b′ ix count done k rest f s fits sized e =
 
 -- ---- the code's two loops
 
--- an equate that is pending has waited at the place that is kept for it
+-- the rows of partial sums
+module _ (w : List ℕ) (k : ℕ) (p : Partial) where
+  length-partial : length (putPartial w k p) ≡ length w
+  length-partial = length-set (set w (k * 2) (bits 64 (p .sum))) (k * 2 + 1) (p .at) ∙ length-set w (k * 2) (bits 64 (p .sum))
+
+  pub partial-same : k * 2 + 2 ≤ length w → in64 (p .sum) ≡ true → partialAt (putPartial w k p) k ≡ p
+  partial-same h e =
+      let first = set w (k * 2) (bits 64 (p .sum)) in
+      let sum : signedOf 64 (getD (putPartial w k p) (k * 2) 0) ≡ p .sum =
+      ap (signedOf 64) (getD-set-other first (k * 2 + 1) (k * 2) (p .at) 0 (λ z. omega (arith, z)) ∙ getD-set-same w (k * 2) (bits 64 (p .sum)) 0 (omega arith))
+      ∙ signed-back (p .sum) e in
+      let at : getD (putPartial w k p) (k * 2 + 1) 0 ≡ p .at =
+      getD-set-same first (k * 2 + 1) (p .at) 0 (omega (arith, length-set w (k * 2) (bits 64 (p .sum)))) in
+      ap₂ (λ (a : ℤ) (b : ℕ). record { sum = a; at = b }) sum at
+
+  pub partial-other : (i : ℕ) → (i ≡ k → ⊥) → partialAt (putPartial w k p) i ≡ partialAt w i
+  partial-other i n =
+      let first = set w (k * 2) (bits 64 (p .sum)) in
+      let same : (j : ℕ) → (j ≡ k * 2 → ⊥) → (j ≡ k * 2 + 1 → ⊥) → getD (putPartial w k p) j 0 ≡ getD w j 0 =
+      λ j a b. getD-set-other first (k * 2 + 1) j (p .at) 0 b ∙ getD-set-other w (k * 2) j (bits 64 (p .sum)) 0 a in
+      ap₂ (λ (a b : ℕ). record { sum = signedOf 64 a; at = b }) (same (i * 2) (λ z. n (omega (arith, z))) (λ z. omega (arith, z)))
+      (same (i * 2 + 1) (λ z. omega (arith, z)) (λ z. n (omega (arith, z))))
+
+-- an equate that is pending has waited, and its row says how far its sum has come
 abbrev Waited : ℕ → State → List Known → List ℕ → ℕ → Type 0
-Waited base σ ks w i = knownAt ks i .found ≡ none → Blocked (record { base = base; state = σ; known = ks }) (knownAt ks i .equate) (getD w i 0)
+Waited base σ ks w i = knownAt ks i .found ≡ none → Blocked (record { base = base; state = σ; known = ks }) (knownAt ks i .equate) (partialAt w i)
 
 -- after a round that began with so many pending
 abbrev nextRound : ℕ → State → (fuel round before : ℕ) → Turns → Result Refusal Turns
@@ -265,7 +289,7 @@ pub record Walk (f : Frame) (round before : ℕ) (ks done todo : List Known) (e 
       ≡ resolve (f .base) (f .state) (f .state .rest .equates)
   pub kept : length e ≡ f .bytes
   pub room : length w ≡ f .places
-  pub roomy : f .count ≤ f .places
+  pub roomy : f .count * 2 ≤ f .places
   pub waited : (i : ℕ) → i < length done → Waited (f .base) (f .state) ks w i
   pub later : (round ≡ 1 → ⊥) → (i : ℕ) → i < f .count → Waited (f .base) (f .state) ks w i
 
@@ -289,7 +313,7 @@ pub record Rounding (f : Frame) (e w : List ℕ) (evaluations pending round : �
   pub goes : rounds (f .base) (f .state) fuel (suc round) known evaluations ≡ resolve (f .base) (f .state) (f .state .rest .equates)
   pub kept : length e ≡ f .bytes
   pub room : length w ≡ f .places
-  pub roomy : f .count ≤ f .places
+  pub roomy : f .count * 2 ≤ f .places
   pub waited : (round ≡ 0 → ⊥) → (i : ℕ) → i < f .count → Waited (f .base) (f .state) known w i
 
 module _ (f : Frame) (round before : ℕ) (ks done : List Known) (k : Known) (rest : List Known) (e w : List ℕ) (evaluations pending : ℕ)
@@ -331,10 +355,10 @@ module _ (f : Frame) (round before : ℕ) (ks done : List Known) (k : Known) (re
     turn-here v q = ap (λ (l : List Known). turn (f .base) (f .state) l (k .equate)) (sym (m .split)) ∙ sym q
 
     -- it waits
-    pub walk-waits : value none ≡ turn (f .base) (f .state) ks (k .equate) → (at : ℕ)
-        → Blocked (record { base = f .base; state = f .state; known = ks }) (k .equate) at → (w′ : List ℕ) → w′ ≡ set w (length done) at
+    pub walk-waits : value none ≡ turn (f .base) (f .state) ks (k .equate) → (s : Partial) → in64 (s .sum) ≡ true
+        → Blocked (record { base = f .base; state = f .state; known = ks }) (k .equate) s → (w′ : List ℕ) → w′ ≡ putPartial w (length done) s
         → Walk f round before ks (done ++ k ∷ []) rest e w′ (suc evaluations) pending
-    walk-waits q at b w′ u = record {
+    walk-waits q s small b w′ u = record {
       split = m .split ∙ sym (seam done k rest);
       table = m .table;
       equates = m .equates;
@@ -347,26 +371,26 @@ module _ (f : Frame) (round before : ℕ) (ks done : List Known) (k : Known) (re
       enough = m .enough;
       goes = ap (λ (x : Result Refusal Turns). andThen x (nextRound (f .base) (f .state) (m .fuel) round before)) (sym (pass-waits (f .base) (f .state) round done k rest evaluations p (turn-here _ q))) ∙ m .goes;
       kept = m .kept;
-      room = ap length u ∙ length-set w (length done) at ∙ m .room;
+      room = ap length u ∙ length-partial w (length done) s ∙ m .room;
       roomy = m .roomy;
       waited = λ i h. waits-at i (λ n. m .waited i (omega (arith, more-size, h, n)));
       later = λ r i h. waits-at i (λ n. m .later r i h);
     }
       where
-        within : length done < length w
+        within : length done * 2 + 2 ≤ length w
         within = omega (arith, m .room, m .roomy, m .table .rows .counted, size)
 
         here-waits : (i : ℕ) → i ≡ length done → Waited (f .base) (f .state) ks w′ i
         here-waits i z none-yet =
-            subst (λ (a : ℕ). Blocked (record { base = f .base; state = f .state; known = ks }) (knownAt ks i .equate) a)
-            (sym (ap (λ (l : List ℕ). getD l i 0) u ∙ ap (λ (j : ℕ). getD (set w (length done) at) j 0) z ∙ getD-set-same w (length done) at 0 within))
-            (subst (λ (l : Known). Blocked (record { base = f .base; state = f .state; known = ks }) (l .equate) at)
+            subst (λ (a : Partial). Blocked (record { base = f .base; state = f .state; known = ks }) (knownAt ks i .equate) a)
+            (sym (ap (λ (l : List ℕ). partialAt l i) u ∙ ap (λ (j : ℕ). partialAt (putPartial w (length done) s) j) z ∙ partial-same w (length done) s within small))
+            (subst (λ (l : Known). Blocked (record { base = f .base; state = f .state; known = ks }) (l .equate) s)
             (sym (ap (knownAt ks) z ∙ here-at)) b)
 
         other-waits : (i : ℕ) → (i ≡ length done → ⊥) → Waited (f .base) (f .state) ks w i → Waited (f .base) (f .state) ks w′ i
         other-waits i n b none-yet =
-            subst (λ (a : ℕ). Blocked (record { base = f .base; state = f .state; known = ks }) (knownAt ks i .equate) a)
-            (sym (ap (λ (l : List ℕ). getD l i 0) u ∙ getD-set-other w (length done) i at 0 n)) (b none-yet)
+            subst (λ (a : Partial). Blocked (record { base = f .base; state = f .state; known = ks }) (knownAt ks i .equate) a)
+            (sym (ap (λ (l : List ℕ). partialAt l i) u ∙ partial-other w (length done) s i n)) (b none-yet)
 
         waits-at : (i : ℕ) → ((i ≡ length done → ⊥) → Waited (f .base) (f .state) ks w i) → Waited (f .base) (f .state) ks w′ i
         waits-at i b = by-equal i (length done) (here-waits i) (λ n. other-waits i n (b n))
@@ -430,8 +454,8 @@ module _ (f : Frame) (round before : ℕ) (ks done : List Known) (k : Known) (re
           on i b = by-equal i (length done)
               (λ y none-yet. absurd (none-some (sym none-yet ∙ ap (λ (j : ℕ). knownAt then j .found) y ∙ ap (λ (x : Known). x .found) (at-seam done found rest))))
               (λ n none-yet.
-              subst (λ (x : Known). Blocked (record { base = f .base; state = f .state; known = then }) (x .equate) (getD w i 0)) (sym (same-there i n))
-              (blocked-later (f .base) (f .state) ks then extends (knownAt ks i .equate) (getD w i 0)
+              subst (λ (x : Known). Blocked (record { base = f .base; state = f .state; known = then }) (x .equate) (partialAt w i)) (sym (same-there i n))
+              (blocked-later (f .base) (f .state) ks then extends (knownAt ks i .equate) (partialAt w i)
               (b n (ap (λ (x : Known). x .found) (sym (same-there i n)) ∙ none-yet))))
 
 -- ---- from the loops' places
@@ -479,17 +503,17 @@ module _ (f : Frame) (round before : ℕ) (e w : List ℕ) (evaluations pending 
         walk = walk-kept f round before (m .all) (m .done) (m .one) (m .rest) e w evaluations pending (m .walk) g q;
       }
 
-  pub next-waits : m .one .found ≡ none → value none ≡ turn (f .base) (f .state) (m .all) (m .one .equate) → (at : ℕ)
-      → Blocked (record { base = f .base; state = f .state; known = m .all }) (m .one .equate) at → (w′ : List ℕ) → w′ ≡ set w k at
+  pub next-waits : m .one .found ≡ none → value none ≡ turn (f .base) (f .state) (m .all) (m .one .equate) → (s : Partial) → in64 (s .sum) ≡ true
+      → Blocked (record { base = f .base; state = f .state; known = m .all }) (m .one .equate) s → (w′ : List ℕ) → w′ ≡ putPartial w k s
       → Walking f round before e w′ (evaluations + 1) pending (k + 1)
-  next-waits p q at b w′ u =
+  next-waits p q s small b w′ u =
       record {
         all = m .all;
         done = m .done ++ m .one ∷ [];
         todo = m .rest;
         place = more (m .one);
         walk = subst (λ (n : ℕ). Walk f round before (m .all) (m .done ++ m .one ∷ []) (m .rest) e w′ n pending) (sym (add-one evaluations))
-            (walk-waits f round before (m .all) (m .done) (m .one) (m .rest) e w evaluations pending (m .walk) p q at b w′ (u ∙ ap (λ (j : ℕ). set w j at) (m .place)));
+            (walk-waits f round before (m .all) (m .done) (m .one) (m .rest) e w evaluations pending (m .walk) p q s small b w′ (u ∙ ap (λ (j : ℕ). putPartial w j s) (m .place)));
       }
 
   -- one is pending at least
@@ -689,12 +713,12 @@ module _ (f : Frame) {l n : List ℕ} {c : ℕ} {starts : Starts} {exprs : List 
             ∙ exprs-same (map pendingEquate (f .state .rest .equates)) (m .all) (equates-all (f .state .rest .equates) ∙ sym (m .walk .equates)) (length exprs);
       }
 
-  pub again-here : (at : ℕ) → at ≡ getD w k 0 → k < f .count → m .one .found ≡ none
-      → TurnAgain (f .text) l n c starts e (f .index) (f .count) exprs round k at scopeHere
-  again-here at q h p =
+  pub again-here : (p : Partial) → p ≡ partialAt w k → k < f .count → m .one .found ≡ none
+      → TurnAgain (f .text) l n c starts e (f .index) (f .count) exprs round k p scopeHere
+  again-here p q h pending =
       record {
         stand = stand-here;
-        waited = λ r. subst (λ (a : ℕ). Blocked scopeHere (equateIn scopeHere k) a) (sym q) (m .walk .later r k h (ap (λ (x : Known). x .found) (m .is) ∙ p));
+        waited = λ r. subst (λ (a : Partial). Blocked scopeHere (equateIn scopeHere k) a) (sym q) (m .walk .later r k h (ap (λ (x : Known). x .found) (m .is) ∙ pending));
       }
 
   -- what the turn gave, said of the equate whose turn it is
@@ -721,12 +745,6 @@ module _ (f : Frame) {l n : List ℕ} {c : ℕ} {starts : Starts} {exprs : List 
       let len : equateRecordAt e k .len ≡ length (m .one .equate .name .bytes) =
       name-len (m .walk .table .rows) k (m .within) ∙ ap (λ (x : Known). length (x .equate .name .bytes)) (m .is) in
       rw (start, len, line-here) refl
-
-  -- a place where it waits lies within the text
-  pub waits-small : (at : ℕ) → Blocked scopeHere (m .one .equate) at → at ≤ textLimit
-  waits-small at b =
-      let fits = subst (λ (x : Known). KnownFits (f .text) x) (m .is) (fits-at (m .walk .table .rows) k (m .within)) in
-      omega (arith, b .within, fits .equate .source .within, m .walk .table .rows .text)
 
 -- ---- after the loops
 

@@ -1,10 +1,10 @@
--- Expressions term by term: the signs, the term, what joins the next one; and the sum from a place on is the whole text's, whatever other
--- names get values.
-use Prim.Native.Nat.{ℕ, _+_, _-_, _≤_, _<_}
+-- Expressions term by term: the signs, the term, what joins the next one; and a sum that goes on from a place is what was to be summed, whatever
+-- other names get values.
+use Prim.Native.Nat.{ℕ, zero, suc, _+_, _-_, _≤_, _<_}
 use native.Mathlib.Omega.{arith}
 use mathlib.Core.Path.{_≡_, refl, sym, ap, _∙_}
 use mathlib.Core.List.{List, [], _∷_}
-use mathlib.Core.Bool.{Bool, true, false, not, _&&_, false≢true}
+use mathlib.Core.Bool.{Bool, true, false, not, _&&_}
 use mathlib.Core.Option.{Option, none, some}
 use lib.Dec.{eqb}
 use lib.ListN.{length, take, drop, getD}
@@ -18,15 +18,18 @@ use Rattle.numbers.specs.declared.ints.Checked.the-variants.{Fits, Beyond}
 use Rattle.numbers.specs.code.Meanings.{checkedValue}
 use Rattle.layout.specs.declared.tokens.Token as code
 use Rattle.layout.specs.declared.tokens.Token.the-variants as kind
-use Rattle.layout.specs.declared.tokens.TokenAt.the-variants.{At, End}
+use Rattle.layout.specs.declared.tokens.TokenAt.the-variants as scanned
+use Rattle.layout.specs.declared.expr.Joint.{Joint}
+use Rattle.layout.specs.declared.expr.Joint.the-variants.{Operator, End, Malformed}
+use Rattle.layout.specs.declared.expr.Partial.{Partial}
 use Rattle.layout.specs.declared.expr.Evaluated as answer
 use Rattle.layout.specs.declared.expr.Evaluated.the-variants.{Value, Waits, Refused}
 use Rattle.layout.specs.Bytes.{isDigit}
 use Rattle.layout.specs.Expressions.{Token, plus, minus, dot, number, name, unreadable, Evaluated, positive, negative, term, joint}
 use Rattle.layout.specs.Expressions.{isNameByte, isNumberByte, tokens, anyUnreadable, addTerm, onName, sumFrom, evaluate}
 use Rattle.layout.specs.code.Tokens.{tokenOf, numeral, TokenStands, spacedIn, blankIn, tokensFrom, TokenLeads}
-use Rattle.layout.specs.code.Terms.{ownSign, unsigned, IsOperand, TermStands, NoTerm, termValue, AddsTerm, NoJoint, JointStands}
-use Rattle.layout.specs.code.Terms.{isUnknown, operandWaits, termWaits, Extends, Waiting, Evaluates, sumOf, evaluationOf}
+use Rattle.layout.specs.code.Terms.{ownSign, unsigned, IsOperand, TermStands, NoTerm, termValue, AddsTerm, NoJoint, JointStands, JointFrom, JointAt}
+use Rattle.layout.specs.code.Terms.{wantedAt, sumOn, evaluationOf, Extends, GoesOn, Waiting, Evaluates}
 use Rattle.layout.proofs.TokenLaws.{plus-stands, minus-stands, number-stands, other-stands, dot-stands, name-stands}
 use Rattle.layout.proofs.SpacedTokens.{from-here}
 use Rattle.layout.proofs.SumLaws.{valued-readable}
@@ -180,16 +183,14 @@ module _ (sum : ℤ) (joining own : Bool) (v : ℤ) where
 -- after the blanks from a place on, at k
 module _ (oneSpace : Bool) (s : List ℕ) (at k : ℕ) (e : k ≡ at + leading (blankIn oneSpace) (drop at s)) where
   pub joint-end : length s ≤ k → tokensFrom oneSpace s at ≡ []
-  joint-end h = from-here oneSpace s at k e End h
+  joint-end h = from-here oneSpace s at k e scanned.End h
 
-  operator-stands : (t : code.Token) (after : ℕ) → TokenStands s k t after → JointStands oneSpace s at (tokenOf s t) after
-  operator-stands t after w =
-      let l = from-here oneSpace s at k e (At t after) w in
-      record { leads = l .leads; further = l .further; within = l .within }
+  reads : (t : code.Token) (after : ℕ) → TokenStands s k t after → TokenLeads oneSpace s at t after
+  reads t after w = from-here oneSpace s at k e (scanned.At t after) w
 
   -- a token that is no operator, whatever stands behind it
   no-operator : (t : code.Token) (after : ℕ) → TokenStands s k t after → NoJoint (tokenOf s t ∷ []) → NoJoint (tokensFrom oneSpace s at)
-  no-operator t after w n = rw (operator-stands t after w .leads) (alone (tokenOf s t) (tokensFrom oneSpace s after) n)
+  no-operator t after w n = rw (reads t after w .leads) (alone (tokenOf s t) (tokensFrom oneSpace s after) n)
     where
       alone : (x : Token) (ts : List Token) → NoJoint (x ∷ []) → NoJoint (x ∷ ts)
       alone plus ts n = n
@@ -200,11 +201,11 @@ module _ (oneSpace : Bool) (s : List ℕ) (at k : ℕ) (e : k ≡ at + leading (
       alone unreadable ts n = n
 
   module _ (h : k < length s) where
-    pub joint-plus : getD s k 0 ≡ 43 → JointStands oneSpace s at plus (k + 1)
-    joint-plus q = operator-stands kind.Plus (k + 1) (plus-stands s k h q)
+    pub joint-plus : getD s k 0 ≡ 43 → JointStands oneSpace s at positive (k + 1)
+    joint-plus q = let l = reads kind.Plus (k + 1) (plus-stands s k h q) in record { leads = l .leads; further = l .further; within = l .within }
 
-    pub joint-minus : getD s k 0 ≡ 45 → JointStands oneSpace s at minus (k + 1)
-    joint-minus q = operator-stands kind.Minus (k + 1) (minus-stands s k h q)
+    pub joint-minus : getD s k 0 ≡ 45 → JointStands oneSpace s at negative (k + 1)
+    joint-minus q = let l = reads kind.Minus (k + 1) (minus-stands s k h q) in record { leads = l .leads; further = l .further; within = l .within }
 
     -- any other byte begins a token that joins nothing
     pub joint-other : (getD s k 0 ≡ 43 → ⊥) → (getD s k 0 ≡ 45 → ⊥) → NoJoint (tokensFrom oneSpace s at)
@@ -226,54 +227,18 @@ module _ (oneSpace : Bool) (s : List ℕ) (at k : ℕ) (e : k ≡ at + leading (
         by false d true f true q = no-operator _ end (dot-stands s k h p m d f end refl q) tt
         by false d true f false q = no-operator _ end (name-stands s k h p m d f end refl q) tt
 
--- ---- a term that waits
+-- where a sum goes on
+pub joint-first : (oneSpace : Bool) (s : List ℕ) (at : ℕ) → at ≡ 0 → JointAt oneSpace s at (Operator positive 0)
+joint-first oneSpace s zero e = refl
+joint-first oneSpace s (suc n) e = absurd (omega arith)
 
--- it is the operand behind the signs that waits
-waits-behind : (look : List ℕ → Option ℤ) (ts us : List Token) → unsigned ts ≡ us → termWaits look ts ≡ operandWaits look us
-unfolding termWaits
-waits-behind look ts us e = ap (operandWaits look) e
+pub joint-behind : (oneSpace : Bool) (s : List ℕ) (at : ℕ) → (at ≡ 0 → ⊥) → (r : Joint) → JointFrom oneSpace s at r → JointAt oneSpace s at r
+joint-behind oneSpace s zero n r j = absurd (n refl)
+joint-behind oneSpace s (suc i) n r j = j
 
-unknown-none : (o : Option ℤ) → isUnknown o ≡ true → o ≡ none
-unknown-none none h = refl
-unknown-none (some z) h = absurd (false≢true h)
-
-operand-waits : (look : List ℕ → Option ℤ) (here : ℤ) (t : Token) (ts : List Token) → operandWaits look (t ∷ ts) ≡ true → termValue look here t ≡ none
-operand-waits look here plus ts h = refl
-operand-waits look here minus ts h = refl
-operand-waits look here dot ts h = absurd (false≢true h)
-operand-waits look here (number z) ts h = absurd (false≢true h)
-operand-waits look here (name n) ts h = unknown-none (look n) h
-operand-waits look here unreadable ts h = refl
-
-operand-valued : (look : List ℕ → Option ℤ) (here : ℤ) (s : List ℕ) (t : code.Token) (ts : List Token) (o : Option ℤ) → IsOperand t
-    → termValue look here (tokenOf s t) ≡ o → operandWaits look (tokenOf s t ∷ ts) ≡ isUnknown o
-operand-valued look here s kind.Plus ts o h e = absurd h
-operand-valued look here s kind.Minus ts o h e = absurd h
-operand-valued look here s kind.Dot ts o h e = ap isUnknown e
-operand-valued look here s (kind.Number z) ts o h e = ap isUnknown e
-operand-valued look here s (kind.Name p) ts o h e = ap isUnknown e
-operand-valued look here s kind.Unreadable ts o h e = absurd h
-
--- no term waits for nothing
-pub waits-missing : (look : List ℕ → Option ℤ) (ts : List Token) → NoTerm (unsigned ts) → false ≡ termWaits look ts
-waits-missing look ts h = sym (waits-behind look ts (unsigned ts) refl ∙ nothing (unsigned ts) h)
-  where
-    nothing : (us : List Token) → NoTerm us → operandWaits look us ≡ false
-    nothing [] h = refl
-    nothing (plus ∷ us) h = absurd h
-    nothing (minus ∷ us) h = absurd h
-    nothing (dot ∷ us) h = absurd h
-    nothing (number z ∷ us) h = absurd h
-    nothing (name n ∷ us) h = absurd h
-    nothing (unreadable ∷ us) h = refl
-
--- a term waits where its operand has no value
-module _ (look : List ℕ → Option ℤ) (oneSpace : Bool) (s : List ℕ) (at : ℕ) (own : Bool) (t : code.Token) (after : ℕ)
-    (w : TermStands oneSpace s at own t after) (here : ℤ) where
-  pub waits-valued : (o : Option ℤ) → o ≡ termValue look here (tokenOf s t) → isUnknown o ≡ termWaits look (tokensFrom oneSpace s at)
-  waits-valued o e =
-      sym (waits-behind look (tokensFrom oneSpace s at) _ (w .leads)
-      ∙ operand-valued look here s t (tokensFrom oneSpace s after) o (w .operand) (sym e))
+pub joint-further : (oneSpace : Bool) (s : List ℕ) (at : ℕ) (joining : Bool) (k : ℕ) → JointAt oneSpace s at (Operator joining k) → at ≤ k
+joint-further oneSpace s zero joining k j = omega arith
+joint-further oneSpace s (suc n) joining k j = omega (arith, j .further)
 
 -- what joins no term: 16
 no-joint : (look : List ℕ → Option ℤ) (here sum : ℤ) (ts : List Token) → NoJoint ts → sumFrom look here sum joint ts ≡ refused 16
@@ -286,115 +251,108 @@ no-joint look here sum (number z ∷ ts) h = refl
 no-joint look here sum (name n ∷ ts) h = refl
 no-joint look here sum (unreadable ∷ ts) h = refl
 
+-- what the sum comes to from a place on, by what stands there
+module _ (oneSpace : Bool) (s : List ℕ) (look : List ℕ → Option ℤ) (here sum : ℤ) where
+  joined-by : (at : ℕ) (joining : Bool) (k : ℕ) → JointAt oneSpace s at (Operator joining k)
+      → sumFrom look here sum (wantedAt at) (tokensFrom oneSpace s at) ≡ sumFrom look here sum (term joining positive) (tokensFrom oneSpace s k)
+  unfolding sumFrom
+  joined-by zero joining k j =
+      let p : joining ≡ positive = cc in
+      let q : k ≡ 0 = cc in
+      rw (p, q) refl
+  joined-by (suc n) false k j = ap (sumFrom look here sum joint) (j .leads)
+  joined-by (suc n) true k j = ap (sumFrom look here sum joint) (j .leads)
+
+  joined-end : (at : ℕ) → JointAt oneSpace s at End → sumFrom look here sum (wantedAt at) (tokensFrom oneSpace s at) ≡ value (some sum)
+  unfolding sumFrom
+  joined-end zero j = absurd (let z : _≡_ {A = ℕ} 0 1 = cc in omega arith)
+  joined-end (suc n) j = ap (sumFrom look here sum joint) j
+
+  joined-none : (at : ℕ) → JointAt oneSpace s at Malformed → sumFrom look here sum (wantedAt at) (tokensFrom oneSpace s at) ≡ refused 16
+  joined-none zero j = absurd (let z : _≡_ {A = ℕ} 0 1 = cc in omega arith)
+  joined-none (suc n) j = no-joint look here sum (tokensFrom oneSpace s (suc n)) j
+
 -- ---- the sum, term by term
 
--- what is summed so far, carried on from a place, is the whole text's sum, whatever other names get values
-pub record Summing (look : List ℕ → Option ℤ) (oneSpace : Bool) (s : List ℕ) (here sum : ℤ) (joining : Bool) (at : ℕ) : Type 0 where
-  pub within : at ≤ length s
-  pub goes : (later : List ℕ → Option ℤ) → Extends look later
-      → sumFrom later here sum (term joining positive) (tokensFrom oneSpace s at) ≡ sumOf oneSpace s here later
+-- an operator is to come behind a term
+wanted-behind : (at : ℕ) → 0 < at → wantedAt at ≡ joint
+wanted-behind zero h = absurd (omega arith)
+wanted-behind (suc n) h = refl
 
-pub sum-first : (look : List ℕ → Option ℤ) (oneSpace : Bool) (s : List ℕ) (here : ℤ) → Summing look oneSpace s here (pos 0) positive 0
-sum-first look oneSpace s here = record { within = omega arith; goes = λ later x. refl }
+module _ (look : List ℕ → Option ℤ) (oneSpace : Bool) (s : List ℕ) (here : ℤ) (f : (List ℕ → Option ℤ) → Evaluated) (sum : ℤ) (at : ℕ)
+    (m : GoesOn look oneSpace s here f (record { sum = sum; at = at })) where
+  -- what the sum comes to from here on, f comes to
+  ends : (r : Evaluated) → sumFrom look here sum (wantedAt at) (tokensFrom oneSpace s at) ≡ r → r ≡ f look
+  ends r e = sym e ∙ sym (m look (extends-self look))
 
-module _ (look : List ℕ → Option ℤ) (oneSpace : Bool) (s : List ℕ) (here sum : ℤ) (joining : Bool) (at : ℕ) (m : Summing look oneSpace s here sum joining at) where
-  -- a refusal or a value from here on is the whole text's
-  ends : (r : Evaluated) → sumFrom look here sum (term joining positive) (tokensFrom oneSpace s at) ≡ r → r ≡ sumOf oneSpace s here look
-  ends r e = sym e ∙ m .goes look (extends-self look)
+  pub sum-end : JointAt oneSpace s at End → Evaluates look oneSpace s here f (Value sum)
+  sum-end j = record { answers = ends (value (some sum)) (joined-end oneSpace s look here sum at j); waiting = tt }
 
-  pub sum-missing : NoTerm (unsigned (tokensFrom oneSpace s at)) → Evaluates look oneSpace s (sumOf oneSpace s here) (Refused 16)
-  sum-missing h =
-      record {
-        answers = ends (refused 16)
-            (sum-unsigned look here sum joining positive (tokensFrom oneSpace s at)
-            ∙ no-term look here sum joining (ownSign positive (tokensFrom oneSpace s at)) (unsigned (tokensFrom oneSpace s at)) h);
-        waiting = tt;
-      }
+  pub sum-malformed : JointAt oneSpace s at Malformed → Evaluates look oneSpace s here f (Refused 16)
+  sum-malformed j = record { answers = ends (refused 16) (joined-none oneSpace s look here sum at j); waiting = tt }
 
-  module _ (own : Bool) (t : code.Token) (after : ℕ) (w : TermStands oneSpace s at own t after) where
-    -- the term's value is added
-    adds : (later : List ℕ → Option ℤ) → sumFrom later here sum (term joining positive) (tokensFrom oneSpace s at)
-        ≡ onName (termValue later here (tokenOf s t)) (λ v. addTerm sum joining own v (λ z. sumFrom later here z joint (tokensFrom oneSpace s after)))
-    adds later =
-        sum-unsigned later here sum joining positive (tokensFrom oneSpace s at)
-        ∙ ap (λ (o : Bool). sumFrom later here sum (term joining o) (unsigned (tokensFrom oneSpace s at))) (sym (w .sign))
-        ∙ ap (sumFrom later here sum (term joining own)) (w .leads)
-        ∙ operand-adds later here sum joining own s t (tokensFrom oneSpace s after) (w .operand)
-
-    -- a name without a value: the sum waits here
-    pub sum-waits : none ≡ termValue look here (tokenOf s t) → Evaluates look oneSpace s (sumOf oneSpace s here) (Waits at)
-    sum-waits e =
+  module _ (joining : Bool) (k : ℕ) (j : JointAt oneSpace s at (Operator joining k)) where
+    pub sum-missing : NoTerm (unsigned (tokensFrom oneSpace s k)) → Evaluates look oneSpace s here f (Refused 16)
+    sum-missing h =
         record {
-          answers = ends (value none) (adds look ∙ rw (← e) refl);
-          waiting = record { within = m .within; waits = λ later x h. sym (m .goes later x) ∙ waits-here later h };
+          answers = ends (refused 16)
+              (joined-by oneSpace s look here sum at joining k j
+              ∙ sum-unsigned look here sum joining positive (tokensFrom oneSpace s k)
+              ∙ no-term look here sum joining (ownSign positive (tokensFrom oneSpace s k)) (unsigned (tokensFrom oneSpace s k)) h);
+          waiting = tt;
         }
-      where
-        waits-here : (later : List ℕ → Option ℤ) → termWaits later (tokensFrom oneSpace s at) ≡ true
-            → sumFrom later here sum (term joining positive) (tokensFrom oneSpace s at) ≡ value none
-        waits-here later h =
-            adds later ∙ rw (operand-waits later here (tokenOf s t) (tokensFrom oneSpace s after) (sym (waits-behind later (tokensFrom oneSpace s at) _ (w .leads)) ∙ h)) refl
 
-    module _ (v : ℤ) (e : some v ≡ termValue look here (tokenOf s t)) where
-      pub sum-beyond : AddsTerm sum joining own v Beyond → Evaluates look oneSpace s (sumOf oneSpace s here) (Refused 24)
-      sum-beyond a = record { answers = ends (refused 24) (adds look ∙ rw (← e) (a _)); waiting = tt }
+    module _ (own : Bool) (t : code.Token) (after : ℕ) (w : TermStands oneSpace s k own t after) where
+      -- the term's value is added
+      adds : (later : List ℕ → Option ℤ) → sumFrom later here sum (wantedAt at) (tokensFrom oneSpace s at)
+          ≡ onName (termValue later here (tokenOf s t)) (λ v. addTerm sum joining own v (λ z. sumFrom later here z joint (tokensFrom oneSpace s after)))
+      adds later =
+          joined-by oneSpace s later here sum at joining k j
+          ∙ sum-unsigned later here sum joining positive (tokensFrom oneSpace s k)
+          ∙ ap (λ (o : Bool). sumFrom later here sum (term joining o) (unsigned (tokensFrom oneSpace s k))) (sym (w .sign))
+          ∙ ap (sumFrom later here sum (term joining own)) (w .leads)
+          ∙ operand-adds later here sum joining own s t (tokensFrom oneSpace s after) (w .operand)
 
-      module _ (z : ℤ) (a : AddsTerm sum joining own v (Fits z)) where
-        -- the sum with the term, before what joins the next one
-        added : (later : List ℕ → Option ℤ) → Extends look later
-            → sumFrom later here sum (term joining positive) (tokensFrom oneSpace s at) ≡ sumFrom later here z joint (tokensFrom oneSpace s after)
-        added later x = adds later ∙ rw (value-stays look later x here (tokenOf s t) v (sym e)) (a _)
+      -- a name without a value: the sum goes on from here
+      pub sum-waits : none ≡ termValue look here (tokenOf s t) → Evaluates look oneSpace s here f (Waits (record { sum = sum; at = at }))
+      sum-waits e = record { answers = ends (value none) (adds look ∙ rw (← e) refl); waiting = m }
 
-        pub sum-end : tokensFrom oneSpace s after ≡ [] → Evaluates look oneSpace s (sumOf oneSpace s here) (Value z)
-        unfolding sumFrom
-        sum-end q = record { answers = ends (value (some z)) (added look (extends-self look) ∙ ap (sumFrom look here z joint) q); waiting = tt }
+      module _ (v : ℤ) (e : some v ≡ termValue look here (tokenOf s t)) where
+        pub sum-beyond : AddsTerm sum joining own v Beyond → Evaluates look oneSpace s here f (Refused 24)
+        sum-beyond a = record { answers = ends (refused 24) (adds look ∙ rw (← e) (a _)); waiting = tt }
 
-        pub sum-malformed : NoJoint (tokensFrom oneSpace s after) → Evaluates look oneSpace s (sumOf oneSpace s here) (Refused 16)
-        sum-malformed n =
-            record {
-              answers = ends (refused 16) (added look (extends-self look) ∙ no-joint look here z (tokensFrom oneSpace s after) n);
-              waiting = tt;
-            }
-
-        pub sum-plus : (next : ℕ) → JointStands oneSpace s after plus next → Summing look oneSpace s here z positive next
-        unfolding sumFrom
-        sum-plus next j =
-            record {
-              within = j .within;
-              goes = λ later x. sym (ap (sumFrom later here z joint) (j .leads)) ∙ sym (added later x) ∙ m .goes later x;
-            }
-
-        pub sum-minus : (next : ℕ) → JointStands oneSpace s after minus next → Summing look oneSpace s here z negative next
-        unfolding sumFrom
-        sum-minus next j =
-            record {
-              within = j .within;
-              goes = λ later x. sym (ap (sumFrom later here z joint) (j .leads)) ∙ sym (added later x) ∙ m .goes later x;
-            }
+        -- the sum with the term
+        pub sum-next : (z : ℤ) → AddsTerm sum joining own v (Fits z) → GoesOn look oneSpace s here f (record { sum = z; at = after })
+        sum-next z a = λ later x. m later x ∙ adds later ∙ rw (value-stays look later x here (tokenOf s t) v (sym e), wanted-behind after (omega (arith, w .further))) (a _)
 
 -- ---- the whole expression
 
+-- nothing is added yet
+abbrev unsummed : Partial
+unsummed = record { sum = pos 0; at = 0 }
+
 module _ (look : List ℕ → Option ℤ) (oneSpace : Bool) (s : List ℕ) (here : ℤ) where
   -- one token that is unreadable refuses
-  pub evaluates-unreadable : anyUnreadable (tokens (spacedIn oneSpace s)) ≡ true → Evaluates look oneSpace s (evaluationOf oneSpace s here) (Refused 16)
+  pub evaluates-unreadable : anyUnreadable (tokens (spacedIn oneSpace s)) ≡ true → Evaluates look oneSpace s here (evaluationOf oneSpace s here) (Refused 16)
   unfolding evaluate
   evaluates-unreadable e = record { answers = rw e refl; waiting = tt }
 
   module _ (r : answer.Evaluated) (e : anyUnreadable (tokens (spacedIn oneSpace s)) ≡ false) where
     -- else it is the sum
-    is-sum : (later : List ℕ → Option ℤ) → sumOf oneSpace s here later ≡ evaluationOf oneSpace s here later
+    is-sum : (later : List ℕ → Option ℤ) → sumOn oneSpace s here unsummed later ≡ evaluationOf oneSpace s here later
     unfolding evaluate tokensFrom
     is-sum later = rw e refl
 
-    waits-as-sum : (q : answer.Evaluated) → Waiting look oneSpace s (sumOf oneSpace s here) q → Waiting look oneSpace s (evaluationOf oneSpace s here) q
+    waits-as-sum : (q : answer.Evaluated) → Waiting look oneSpace s here (sumOn oneSpace s here unsummed) q → Waiting look oneSpace s here (evaluationOf oneSpace s here) q
     waits-as-sum (Value z) w = tt
-    waits-as-sum (Waits at) w = record { within = w .within; waits = λ later x h. sym (is-sum later) ∙ w .waits later x h }
+    waits-as-sum (Waits p) w = λ later x. sym (is-sum later) ∙ w later x
     waits-as-sum (Refused n) w = tt
 
-    pub evaluates-sum : Evaluates look oneSpace s (sumOf oneSpace s here) r → Evaluates look oneSpace s (evaluationOf oneSpace s here) r
+    pub evaluates-sum : Evaluates look oneSpace s here (sumOn oneSpace s here unsummed) r → Evaluates look oneSpace s here (evaluationOf oneSpace s here) r
     evaluates-sum v = record { answers = v .answers ∙ is-sum look; waiting = waits-as-sum r (v .waiting) }
 
   -- a value needs no second look at the tokens
-  pub evaluates-value : (z : ℤ) → Evaluates look oneSpace s (sumOf oneSpace s here) (Value z) → Evaluates look oneSpace s (evaluationOf oneSpace s here) (Value z)
+  pub evaluates-value : (z : ℤ) → Evaluates look oneSpace s here (sumOn oneSpace s here unsummed) (Value z) → Evaluates look oneSpace s here (evaluationOf oneSpace s here) (Value z)
   unfolding tokensFrom
   evaluates-value z v =
       evaluates-sum (Value z) (valued-readable look here (pos 0) (term positive positive) (tokens (spacedIn oneSpace s)) z (sym (v .answers))) v

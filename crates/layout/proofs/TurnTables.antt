@@ -1,14 +1,16 @@
 -- An equate's turn in code: its expression read back from its record, and what its evaluation says of the turn.
 use Prim.Native.Nat.{ℕ, _+_, _*_, _^_, _≤_, _<_}
 use native.Mathlib.Omega.{arith}
-use mathlib.Core.Path.{_≡_, refl, sym, ap, ap₂, subst, _∙_}
+use mathlib.Core.Path.{_≡_, refl, sym, ap, subst, _∙_}
 use mathlib.Core.List.{List}
 use mathlib.Core.Bool.{Bool, true, false}
+use mathlib.Core.Option.{Option}
 use lib.Dec.{eqb}
-use lib.IntN.{pos}
+use lib.IntN.{ℤ, pos}
 use lib.ListN.{length}
 use Rattle.numbers.specs.code.Spans.{spanned}
 use Rattle.layout.specs.declared.addresses.Starts.{Starts}
+use Rattle.layout.specs.declared.expr.Partial.{Partial}
 use Rattle.layout.specs.declared.expr.Evaluated as answer
 use Rattle.layout.specs.declared.expr.Evaluated.the-variants.{Value, Waits, Refused}
 use Rattle.layout.specs.declared.state.Section.{Section}
@@ -18,14 +20,14 @@ use Rattle.layout.specs.State.{Equate}
 use Rattle.layout.specs.Stage.{isLabel}
 use Rattle.layout.specs.Records.{fieldBytes, fourAt}
 use Rattle.layout.specs.Addresses.{addressAt}
+use Rattle.layout.specs.Expressions.{Evaluated}
 use Rattle.layout.specs.Rounds.{Known, constant, look, isSome}
 use Rattle.layout.specs.code.Places.{sectionLimit, sectionCode, placeCode}
 use Rattle.layout.specs.code.Fits.{EquateFits}
 use Rattle.layout.specs.code.Tables.{exprSize, flagOf, exprRecordAt, equateNameAt}
-use Rattle.layout.specs.code.Tokens.{tokensFrom}
 use Rattle.layout.specs.code.Placed.{PlaceCoded}
 use Rattle.layout.specs.code.Names.{Scope, lookIn}
-use Rattle.layout.specs.code.Terms.{termWaits, Evaluates, evaluationOf}
+use Rattle.layout.specs.code.Terms.{sumOn, evaluationOf, Evaluates}
 use Rattle.layout.specs.code.Resolves.{knownExpr, TurnStand, noKnown, equateIn, Blocked, BlockedBy, TurnGives}
 use Rattle.layout.proofs.TableLaws.{read-row, table-lent}
 use Rattle.layout.proofs.KnownLaws.{fits-at, name-back}
@@ -50,6 +52,14 @@ code-small : (q : Section) (o : ℕ) → o ≤ sectionLimit q → sectionCode q 
 code-small section.Text o h = omega arith
 code-small section.Data o h = omega arith
 code-small section.Bss o h = omega arith
+
+-- an equate's own `.`, and what is evaluated of its expression
+abbrev placeIn : Scope → Equate → ℤ
+placeIn s e = pos (addressAt (s .base) (s .state) (e .place))
+
+abbrev EvaluatesOne : Scope → Equate → (Bool → List ℕ → ℤ → (List ℕ → Option ℤ) → Evaluated) → answer.Evaluated → Type 0
+EvaluatesOne s e f r =
+    Evaluates (lookIn s) (e .expr .oneSpace) (e .expr .source .bytes) (placeIn s e) (f (e .expr .oneSpace) (e .expr .source .bytes) (placeIn s e)) r
 
 module _ {t l n : List ℕ} {c : ℕ} {starts : Starts} {e x : List ℕ} {m : ℕ} {exprs : List ℕ} {s : Scope}
     (d : TurnStand t l n c starts e x m exprs s) (k : ℕ) (below : k < m) where
@@ -103,23 +113,16 @@ module _ {t l n : List ℕ} {c : ℕ} {starts : Starts} {e x : List ℕ} {m : �
     pub value-told : r ≡ isSome (constant (s .known) name) → r ≡ b → isSome (constant (s .known) (one .name .bytes)) ≡ b
     value-told h g = ap (λ (x : List ℕ). isSome (constant (s .known) x)) (sym own-name) ∙ sym h ∙ g
 
-  -- and its expression's evaluation, or a term that waits in it
+  -- and what is summed or evaluated of its expression
   module _ (bytes : List ℕ) (oneSpace : Bool) (p : bytes ≡ spanned t (record { start = exprRecordAt exprs k .start; len = exprRecordAt exprs k .len }))
       (q : oneSpace ≡ exprRecordAt exprs k .«one_space») where
-    pub evaluated-told : (here : ℕ) → here ≡ addressAt (s .base) (s .state) (one .place) → (r : answer.Evaluated)
-        → Evaluates (lookIn s) oneSpace bytes (evaluationOf oneSpace bytes (pos here)) r
-        → Evaluates (lookIn s) (one .expr .oneSpace) (one .expr .source .bytes)
-        (evaluationOf (one .expr .oneSpace) (one .expr .source .bytes) (pos (addressAt (s .base) (s .state) (one .place)))) r
-    evaluated-told here h r v =
-        subst (λ (x : List ℕ). Evaluates (lookIn s) (one .expr .oneSpace) x (evaluationOf (one .expr .oneSpace) x (pos (addressAt (s .base) (s .state) (one .place)))) r)
+    pub evaluated-told : (f : Bool → List ℕ → ℤ → (List ℕ → Option ℤ) → Evaluated) (here : ℕ) → here ≡ addressAt (s .base) (s .state) (one .place) → (r : answer.Evaluated)
+        → Evaluates (lookIn s) oneSpace bytes (pos here) (f oneSpace bytes (pos here)) r → EvaluatesOne s one f r
+    evaluated-told f here h r v =
+        subst (λ (x : List ℕ). Evaluates (lookIn s) (one .expr .oneSpace) x (placeIn s one) (f (one .expr .oneSpace) x (placeIn s one)) r)
         (p ∙ expr-bytes)
-        (subst (λ (o : Bool). Evaluates (lookIn s) o bytes (evaluationOf o bytes (pos (addressAt (s .base) (s .state) (one .place)))) r) (q ∙ expr-flag)
-        (subst (λ (a : ℕ). Evaluates (lookIn s) oneSpace bytes (evaluationOf oneSpace bytes (pos a)) r) h v))
-
-    pub waits-told : (at : ℕ) (r : Bool) → r ≡ termWaits (lookIn s) (tokensFrom oneSpace bytes at) → r ≡ true
-        → termWaits (lookIn s) (tokensFrom (one .expr .oneSpace) (one .expr .source .bytes) at) ≡ true
-    waits-told at r h g =
-        ap₂ (λ (o : Bool) (x : List ℕ). termWaits (lookIn s) (tokensFrom o x at)) (sym (q ∙ expr-flag)) (sym (p ∙ expr-bytes)) ∙ sym h ∙ g
+        (subst (λ (o : Bool). Evaluates (lookIn s) o bytes (placeIn s one) (f o bytes (placeIn s one)) r) (q ∙ expr-flag)
+        (subst (λ (a : ℕ). Evaluates (lookIn s) oneSpace bytes (pos a) (f oneSpace bytes (pos a)) r) h v))
 
 -- ---- the turn
 
@@ -131,32 +134,31 @@ module _ (s : Scope) (e : Equate) where
     pub gives-known : isSome (constant (s .known) (e .name .bytes)) ≡ true → TurnGives s e (Refused 15)
     gives-known h = record { answers = turn-known (s .base) (s .state) (s .known) e free h; blocked = tt }
 
-    pub gives-evaluated : isSome (constant (s .known) (e .name .bytes)) ≡ false → (r : answer.Evaluated)
-        → Evaluates (lookIn s) (e .expr .oneSpace) (e .expr .source .bytes) (evaluationOf (e .expr .oneSpace) (e .expr .source .bytes) (pos (addressAt (s .base) (s .state) (e .place)))) r
-        → TurnGives s e r
+    pub gives-evaluated : isSome (constant (s .known) (e .name .bytes)) ≡ false → (r : answer.Evaluated) → EvaluatesOne s e evaluationOf r → TurnGives s e r
     unfolding lookIn
-    gives-evaluated h r v =
-        record { answers = v .answers ∙ turn-evaluates (s .base) (s .state) (s .known) e free h; blocked = by r v }
+    gives-evaluated h r v = record { answers = v .answers ∙ turn-evaluates (s .base) (s .state) (s .known) e free h; blocked = by r v }
       where
-        by : (q : answer.Evaluated)
-            → Evaluates (lookIn s) (e .expr .oneSpace) (e .expr .source .bytes) (evaluationOf (e .expr .oneSpace) (e .expr .source .bytes) (pos (addressAt (s .base) (s .state) (e .place)))) q
-            → BlockedBy s e q
+        by : (q : answer.Evaluated) → EvaluatesOne s e evaluationOf q → BlockedBy s e q
         by (Value z) v = tt
-        by (Waits at) v =
+        by (Waits p) v =
             record {
               no-label = free;
-              within = v .waiting .within;
-              waits = λ ks y c g. sym (turn-evaluates (s .base) (s .state) ks e free c) ∙ v .waiting .waits (look (s .base) (s .state) ks) y g;
+              goes = λ ks y c. sym (turn-evaluates (s .base) (s .state) ks e free c) ∙ v .waiting (look (s .base) (s .state) ks) y;
             }
         by (Refused n) v = tt
 
-  -- it has waited: another equate of its name is found, or the term still waits
-  module _ (at : ℕ) (b : Blocked s e at) where
+  -- it has waited: another equate of its name is found, or its sum goes on
+  module _ (p : Partial) (b : Blocked s e p) where
     pub again-known : isSome (constant (s .known) (e .name .bytes)) ≡ true → TurnGives s e (Refused 15)
     again-known h = gives-known (b .no-label) h
 
-    pub again-waits : isSome (constant (s .known) (e .name .bytes)) ≡ false
-        → termWaits (lookIn s) (tokensFrom (e .expr .oneSpace) (e .expr .source .bytes) at) ≡ true → TurnGives s e (Waits at)
+    pub again-summed : isSome (constant (s .known) (e .name .bytes)) ≡ false → (r : answer.Evaluated)
+        → EvaluatesOne s e (λ oneSpace x here. sumOn oneSpace x here p) r → TurnGives s e r
     unfolding lookIn
-    again-waits h g =
-        record { answers = sym (b .waits (s .known) (extends-self (look (s .base) (s .state) (s .known))) h g); blocked = b }
+    again-summed h r v =
+        record { answers = v .answers ∙ sym (b .goes (s .known) (extends-self (look (s .base) (s .state) (s .known))) h); blocked = by r v }
+      where
+        by : (q : answer.Evaluated) → EvaluatesOne s e (λ oneSpace x here. sumOn oneSpace x here p) q → BlockedBy s e q
+        by (Value z) v = tt
+        by (Waits q) v = record { no-label = b .no-label; goes = λ ks y c. b .goes ks y c ∙ v .waiting (look (s .base) (s .state) ks) y }
+        by (Refused n) v = tt

@@ -178,9 +178,9 @@ fn after_lines(
     requires { ⌜ LinesReady text base st labels «label_index» equates exprs items «data_bytes» «label_words» words ⌝ }
     ensures { λ r. ⌜ LinesGive text base st labels «label_index» equates exprs items «data_bytes» «label_words» words r ⌝ }
 {
-    // the index over equates, 1,024 buckets and an entry each, and where each waits
+    // the index over equates, 1,024 buckets and an entry each, and how far each one's sum has come, two numbers each
     let mut equate_index = [0u16; 1280];
-    let mut waits = [0u32; 256];
+    let mut waits = [0u64; 512];
     match resolve_symbols(
         text,
         base,

@@ -16,14 +16,20 @@ ghost use mathlib.Core.List.{List};
 ghost use Prim.Native.Nat.{ℕ};
 ghost use lib.IntN.{pos};
 ghost use Rattle.layout.specs.Expressions.{tokens, isUnreadable, anyUnreadable};
-ghost use Rattle.layout.specs.code.Tokens.{tokenOf, spacedIn, tokensFrom};
+ghost use Rattle.layout.specs.code.Tokens.{tokenOf, spacedIn};
 ghost use Rattle.layout.specs.code.Names.{valueOf, lookIn, NamesReady, NamesKnown};
-ghost use Rattle.layout.specs.code.Terms.{TermFrom, termValue, AddsTerm, JointFrom, termWaits, Evaluates, sumOf, evaluationOf};
+ghost use Rattle.layout.specs.code.Terms.{TermFrom, termValue, AddsTerm, JointFrom, JointAt, Evaluates, sumOn, evaluationOf};
 
-// What an evaluation comes to: a value; none while a name has none, with the place of that name's term; or a refusal's number.
+// How far a sum has come: the terms before a place are added. At place 0 a term is to come, behind a term an operator or the end.
+pub struct Partial {
+    pub sum: i64,
+    pub at: usize,
+}
+
+// What an evaluation comes to: a value; while a name has none, the sum before that name's term; or a refusal's number.
 pub enum Evaluated {
     Value(i64),
-    Waits(usize),
+    Waits(Partial),
     Refused(u8),
 }
 
@@ -156,43 +162,6 @@ fn term_value(
     }
 }
 
-// Has the term at a place a name without a value?
-pub fn term_waits(
-    text: &[u8],
-    labels: &[u8],
-    label_index: &[u16],
-    label_count: usize,
-    equates: &[u8],
-    equate_index: &[u16],
-    equate_count: usize,
-    s: &[u8],
-    one_space: bool,
-    at: usize,
-) -> bool
-    requires { ⌜ NamesReady text labels «label_index» «label_count» equates «equate_index» «equate_count» ⌝ }
-    ensures { λ r. ⌜ NamesKnown text labels «label_index» «label_count» equates «equate_index» «equate_count»
-        (λ names. r ≡ termWaits (lookIn names) (tokensFrom «one_space» (now (s .entry)) at)) ⌝ }
-{
-    let Term::Found(_, token, _) = signed_term(s, at, one_space) else {
-        return false;
-    };
-    match term_value(
-        text,
-        labels,
-        label_index,
-        label_count,
-        equates,
-        equate_index,
-        equate_count,
-        s,
-        0,
-        token,
-    ) {
-        Value::Is(_) => false,
-        Value::Nothing => true,
-    }
-}
-
 // The sum with one term more: 24's three conditions in their order.
 fn add_term(sum: i64, joining: bool, own: bool, v: i64) -> Checked
     ensures { λ r. ⌜ AddsTerm sum joining own v r ⌝ }
@@ -206,14 +175,14 @@ fn add_term(sum: i64, joining: bool, own: bool, v: i64) -> Checked
     checked_add(sum, q)
 }
 
-// What stands behind a term: an operator and the place after it, the end, or neither.
+// What joins the next term: an operator, whether it is a minus, and the place after it; the end; or neither.
 enum Joint {
-    Plus(usize),
-    Minus(usize),
+    Operator(bool, usize),
     End,
     Malformed,
 }
 
+// What stands behind a term.
 fn operator_at(s: &[u8], at: usize, one_space: bool) -> Joint
     ensures { λ r. ⌜ JointFrom «one_space» (now (s .entry)) at r ⌝ }
 {
@@ -222,16 +191,26 @@ fn operator_at(s: &[u8], at: usize, one_space: bool) -> Joint
         return Joint::End;
     }
     if s[i] == b'+' {
-        return Joint::Plus(i + 1);
+        return Joint::Operator(false, i + 1);
     }
     if s[i] == b'-' {
-        return Joint::Minus(i + 1);
+        return Joint::Operator(true, i + 1);
     }
     Joint::Malformed
 }
 
-// The sum of an expression's terms, as far as it goes.
-fn sum_terms(
+// The same where a sum goes on: the first term is joined as if by a `+` before it.
+fn joint_at(s: &[u8], at: usize, one_space: bool) -> Joint
+    ensures { λ r. ⌜ JointAt «one_space» (now (s .entry)) at r ⌝ }
+{
+    if at == 0 {
+        return Joint::Operator(false, 0);
+    }
+    operator_at(s, at, one_space)
+}
+
+// The sum of an expression's terms, gone on with from where it has come to, as far as it goes.
+pub fn sum_terms(
     text: &[u8],
     labels: &[u8],
     label_index: &[u16],
@@ -242,44 +221,39 @@ fn sum_terms(
     s: &[u8],
     one_space: bool,
     here: u32,
+    from: Partial,
 ) -> Evaluated
     requires { ⌜ NamesReady text labels «label_index» «label_count» equates «equate_index» «equate_count» ⌝ }
     ensures { λ r. ⌜ NamesKnown text labels «label_index» «label_count» equates «equate_index» «equate_count»
-        (λ names. Evaluates (lookIn names) «one_space» (now (s .entry)) (sumOf «one_space» (now (s .entry)) (pos here)) r) ⌝ }
+        (λ names. Evaluates (lookIn names) «one_space» (now (s .entry)) (pos here) (sumOn «one_space» (now (s .entry)) (pos here) from) r) ⌝ }
 {
-    let mut sum: i64 = 0;
-    let mut joining = false;
-    let mut at = 0;
+    let mut sum = from.sum;
+    let mut at = from.at;
     loop {
-        let Term::Found(own, token, after) = signed_term(s, at, one_space) else {
-            return Evaluated::Refused(16);
-        };
-        let Value::Is(v) = term_value(
-            text,
-            labels,
-            label_index,
-            label_count,
-            equates,
-            equate_index,
-            equate_count,
-            s,
-            here,
-            token,
-        ) else {
-            return Evaluated::Waits(at);
-        };
-        let Checked::Fits(next) = add_term(sum, joining, own, v) else {
-            return Evaluated::Refused(24);
-        };
-        sum = next;
-        match operator_at(s, after, one_space) {
-            Joint::Plus(k) => {
-                joining = false;
-                at = k;
-            }
-            Joint::Minus(k) => {
-                joining = true;
-                at = k;
+        match joint_at(s, at, one_space) {
+            Joint::Operator(joining, k) => {
+                let Term::Found(own, token, after) = signed_term(s, k, one_space) else {
+                    return Evaluated::Refused(16);
+                };
+                let Value::Is(v) = term_value(
+                    text,
+                    labels,
+                    label_index,
+                    label_count,
+                    equates,
+                    equate_index,
+                    equate_count,
+                    s,
+                    here,
+                    token,
+                ) else {
+                    return Evaluated::Waits(Partial { sum, at });
+                };
+                let Checked::Fits(next) = add_term(sum, joining, own, v) else {
+                    return Evaluated::Refused(24);
+                };
+                sum = next;
+                at = after;
             }
             Joint::End => {
                 return Evaluated::Value(sum);
@@ -307,7 +281,7 @@ pub fn eval_expr(
 ) -> Evaluated
     requires { ⌜ NamesReady text labels «label_index» «label_count» equates «equate_index» «equate_count» ⌝ }
     ensures { λ r. ⌜ NamesKnown text labels «label_index» «label_count» equates «equate_index» «equate_count»
-        (λ names. Evaluates (lookIn names) «one_space» (now (s .entry)) (evaluationOf «one_space» (now (s .entry)) (pos here)) r) ⌝ }
+        (λ names. Evaluates (lookIn names) «one_space» (now (s .entry)) (pos here) (evaluationOf «one_space» (now (s .entry)) (pos here)) r) ⌝ }
 {
     let answer = sum_terms(
         text,
@@ -320,6 +294,7 @@ pub fn eval_expr(
         s,
         one_space,
         here,
+        Partial { sum: 0, at: 0 },
     );
     if let Evaluated::Value(_) = answer {
         return answer;

@@ -5,12 +5,15 @@ use crate::equates::Value;
 use crate::equates::constant;
 use crate::equates::equate_name;
 use crate::expr::Evaluated;
+use crate::expr::Partial;
 use crate::expr::eval_expr;
-use crate::expr::term_waits;
+use crate::expr::sum_terms;
 use crate::records::EquateRecord;
 use crate::records::get_equate;
 use crate::records::get_expr;
 use crate::records::put_equate;
+use numbers::ints::bits_of_i64;
+use numbers::ints::i64_of_bits;
 use numbers::text::Span;
 use numbers::text::span_bytes;
 ghost use mathlib.Core.Path.{_≡_};
@@ -24,7 +27,7 @@ ghost use Rattle.layout.specs.Rounds.{constant, isSome, firstPending, Kn
 ghost use mathlib.Core.List.{List};
 ghost use Rattle.layout.specs.code.Steps.{Some};
 ghost use Rattle.layout.specs.code.Names.{EquateTable};
-ghost use Rattle.layout.specs.code.Resolves.{equateIn, TurnReady, TurnKnown, AgainReady, AgainKnown, TurnGives, EvaluationGives, ResolveReady, Resolves};
+ghost use Rattle.layout.specs.code.Resolves.{equateIn, TurnReady, TurnKnown, AgainReady, AgainKnown, TurnGives, EvaluationGives, partialAt, putPartial, ResolveReady, Resolves};
 
 // An equate's turn: what it comes to, and the evaluations so far.
 pub struct Evaluation {
@@ -92,7 +95,7 @@ pub fn turn(
     )
 }
 
-// The same for an equate that has waited at a term of its expression: while that has no value, it waits there.
+// The same for an equate that has waited: its sum goes on from where it had come to.
 fn turn_again(
     text: &[u8],
     labels: &[u8],
@@ -104,10 +107,10 @@ fn turn_again(
     equate_count: usize,
     exprs: &[u8],
     k: usize,
-    at: usize,
+    from: Partial,
 ) -> Evaluated
-    requires { ⌜ AgainReady text labels «label_index» «label_count» starts equates «equate_index» «equate_count» exprs 2 k at × (k < «equate_count») ⌝ }
-    ensures { λ r. ⌜ AgainKnown text labels «label_index» «label_count» starts equates «equate_index» «equate_count» exprs 2 k at
+    requires { ⌜ AgainReady text labels «label_index» «label_count» starts equates «equate_index» «equate_count» exprs 2 k from × (k < «equate_count») ⌝ }
+    ensures { λ r. ⌜ AgainKnown text labels «label_index» «label_count» starts equates «equate_index» «equate_count» exprs 2 k from
         (λ names. TurnGives names (equateIn names k) r) ⌝ }
 {
     let name = equate_name(text, equates, k);
@@ -119,7 +122,7 @@ fn turn_again(
         start: expr.start as usize,
         len: expr.len as usize,
     };
-    if term_waits(
+    sum_terms(
         text,
         labels,
         label_index,
@@ -129,21 +132,8 @@ fn turn_again(
         equate_count,
         span_bytes(text, source),
         expr.one_space,
-        at,
-    ) {
-        return Evaluated::Waits(at);
-    }
-    turn(
-        text,
-        labels,
-        label_index,
-        label_count,
-        starts,
-        equates,
-        equate_index,
-        equate_count,
-        exprs,
-        k,
+        starts.address(expr.place),
+        from,
     )
 }
 
@@ -159,12 +149,12 @@ fn evaluate(
     equate_count: usize,
     exprs: &[u8],
     k: usize,
-    at: usize,
+    from: Partial,
     round: u32,
     evaluations: usize,
 ) -> Evaluation
-    requires { ⌜ AgainReady text labels «label_index» «label_count» starts equates «equate_index» «equate_count» exprs round k at × (k < «equate_count») × (evaluations < 2 ^ 64 - 1) ⌝ }
-    ensures { λ r. ⌜ AgainKnown text labels «label_index» «label_count» starts equates «equate_index» «equate_count» exprs round k at
+    requires { ⌜ AgainReady text labels «label_index» «label_count» starts equates «equate_index» «equate_count» exprs round k from × (k < «equate_count») × (evaluations < 2 ^ 64 - 1) ⌝ }
+    ensures { λ r. ⌜ AgainKnown text labels «label_index» «label_count» starts equates «equate_index» «equate_count» exprs round k from
         (λ names. EvaluationGives names (equateIn names k) evaluations r) ⌝ }
 {
     if round == 1 {
@@ -196,7 +186,7 @@ fn evaluate(
             equate_count,
             exprs,
             k,
-            at,
+            from,
         ),
         evaluations: evaluations + 1,
     }
@@ -231,6 +221,27 @@ fn put_found(equates: &mut [u8], k: usize, value: i64, round: u32)
     put_equate(equates, k, found);
 }
 
+// How far the kth equate's sum has come, by its row of two numbers: the sum's bits, and the place.
+fn partial_at(waits: &[u64], k: usize) -> Partial
+    requires { ⌜ k * 2 + 2 ≤ length (now waits) ⌝ }
+    ensures { λ r. ⌜ r ≡ partialAt (now (waits .entry)) k ⌝ }
+{
+    let row = k * 2;
+    Partial {
+        sum: i64_of_bits(waits[row]),
+        at: waits[row + 1] as usize,
+    }
+}
+
+fn put_partial(waits: &mut [u64], k: usize, from: Partial)
+    requires { ⌜ k * 2 + 2 ≤ length (now waits) ⌝ }
+    ensures { λ _. ⌜ now (waits .exit) ≡ putPartial (now (waits .entry)) k from ⌝ }
+{
+    let row = k * 2;
+    waits[row] = bits_of_i64(from.sum);
+    waits[row + 1] = from.at as u64;
+}
+
 // The line of the first of so many equates that is pending.
 fn first_pending(equates: &[u8], count: usize) -> u32
     requires { ⌜ count * equateSize ≤ length (now equates) ⌝ }
@@ -257,7 +268,7 @@ pub fn resolve(
     equate_index: &[u16],
     count: usize,
     exprs: &[u8],
-    waits: &mut [u32],
+    waits: &mut [u64],
 ) -> Resolved
     requires { ⌜ ResolveReady text labels «label_index» «label_count» starts equates «equate_index» count exprs waits ⌝ }
     ensures { λ r. ⌜ Resolves text labels «label_index» «label_count» starts equates «equate_index» count exprs waits r ⌝ }
@@ -285,7 +296,7 @@ pub fn resolve(
                     count,
                     exprs,
                     k,
-                    waits[k] as usize,
+                    partial_at(waits, k),
                     round,
                     evaluations,
                 );
@@ -296,8 +307,8 @@ pub fn resolve(
                         put_found(equates, k, v, round);
                         pending -= 1;
                     }
-                    Evaluated::Waits(at) => {
-                        waits[k] = at as u32;
+                    Evaluated::Waits(from) => {
+                        put_partial(waits, k, from);
                     }
                     Evaluated::Refused(n) => {
                         refused = true;

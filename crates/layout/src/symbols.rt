@@ -19,7 +19,7 @@ pub fn resolve_symbols(
     equates: &mut [u8],
     equate_index: &mut [u16],
     exprs: &[u8],
-    waits: &mut [u32],
+    waits: &mut [u64],
     data_bytes: &mut [u8],
     label_words: &[u8],
 ) -> Resolved

@@ -1,13 +1,16 @@
--- The rounds in code: an equate's turn, an equate that waits at a term, and what the rounds leave.
+-- The rounds in code: an equate's turn, an equate that has waited, and what the rounds leave.
 use denote.Ref.{now}
-use Prim.Native.Nat.{ℕ, _+_, _≤_}
+use Prim.Native.Nat.{ℕ, _+_, _*_, _≤_}
 use mathlib.Core.Path.{_≡_}
 use mathlib.Core.List.{List, [], map}
-use mathlib.Core.Bool.{true, false}
+use mathlib.Core.Bool.{false}
 use mathlib.Core.Option.{none}
-use lib.ListN.{length, getD}
+use lib.IntN.{pos}
+use lib.ListN.{length, getD, set}
 use Rattle.numbers.specs.Results.{Result, value, refused}
+use Rattle.numbers.specs.Ints.{bits, signedOf}
 use Rattle.layout.specs.declared.addresses.Starts.{Starts}
+use Rattle.layout.specs.declared.expr.Partial.{Partial}
 use Rattle.layout.specs.declared.expr.Evaluated as answer
 use Rattle.layout.specs.declared.expr.Evaluated.the-variants.{Value, Waits, Refused}
 use Rattle.layout.specs.declared.rounds.Evaluation.{Evaluation}
@@ -19,15 +22,15 @@ use Rattle.layout.specs.Pieces.{piece}
 use Rattle.layout.specs.State.{Equate, State}
 use Rattle.layout.specs.Stage.{isLabel}
 use Rattle.layout.specs.Records.{Field, tableOf}
+use Rattle.layout.specs.Addresses.{addressAt}
 use Rattle.layout.specs.Rounds.{Known, pendingEquate, constant, look, isSome, turn, Turns}
 use Rattle.layout.specs.Layouts.{resolve}
 use Rattle.layout.specs.code.Steps.{Some}
-use Rattle.layout.specs.code.Tokens.{tokensFrom}
 use Rattle.layout.specs.code.Stands.{exprSoFar}
 use Rattle.layout.specs.code.Lent.{Lent, OverCall}
 use Rattle.layout.specs.code.Placed.{StartsAt}
 use Rattle.layout.specs.code.Names.{EquateTable, Scope, NamesStand}
-use Rattle.layout.specs.code.Terms.{evaluatedOf, termWaits, Extends}
+use Rattle.layout.specs.code.Terms.{evaluatedOf, sumOn, Extends}
 
 -- ---- an equate's turn
 
@@ -59,33 +62,32 @@ knownAt ks k = getD ks k noKnown
 abbrev pub equateIn : Scope → ℕ → Equate
 equateIn s k = knownAt (s .known) k .equate
 
--- an equate, named as no label, waits at a place of its expression: while it has no value by another equate of its name, and the term there waits, its turn
--- comes to no value, whatever other names get values
-pub record Blocked (s : Scope) (e : Equate) (at : ℕ) : Type 0 where
+-- an equate, named as no label, has waited: while it has no value by another equate of its name, its turn is what the sum comes to from there on, whatever
+-- other names get values
+pub record Blocked (s : Scope) (e : Equate) (p : Partial) : Type 0 where
   pub no-label : isLabel (e .name .bytes) (s .state .labels) ≡ false
-  pub within : at ≤ length (e .expr .source .bytes)
-  pub waits : (ks : List Known) → Extends (look (s .base) (s .state) (s .known)) (look (s .base) (s .state) ks)
+  pub goes : (ks : List Known) → Extends (look (s .base) (s .state) (s .known)) (look (s .base) (s .state) ks)
       → isSome (constant ks (e .name .bytes)) ≡ false
-      → termWaits (look (s .base) (s .state) ks) (tokensFrom (e .expr .oneSpace) (e .expr .source .bytes) at) ≡ true
-      → turn (s .base) (s .state) ks e ≡ value none
+      → turn (s .base) (s .state) ks e
+      ≡ sumOn (e .expr .oneSpace) (e .expr .source .bytes) (pos (addressAt (s .base) (s .state) (e .place))) p (look (s .base) (s .state) ks)
 
 abbrev pub BlockedBy : Scope → Equate → answer.Evaluated → Type 0
 BlockedBy s e (Value z) = Unit
-BlockedBy s e (Waits at) = Blocked s e at
+BlockedBy s e (Waits p) = Blocked s e p
 BlockedBy s e (Refused n) = Unit
 
--- an answer is the equate's turn; where it waits, it says where
+-- an answer is the equate's turn; where it waits, it says from where it goes on
 pub record TurnGives (s : Scope) (e : Equate) (r : answer.Evaluated) : Type 0 where
   pub answers : evaluatedOf r ≡ turn (s .base) (s .state) (s .known) e
   pub blocked : BlockedBy s e r
 
 -- from the second round on a pending equate has waited
-abbrev pub HasWaited : ℕ → Scope → Equate → ℕ → Type 0
-HasWaited round s e at = (round ≡ 1 → ⊥) → Blocked s e at
+abbrev pub HasWaited : ℕ → Scope → Equate → Partial → Type 0
+HasWaited round s e p = (round ≡ 1 → ⊥) → Blocked s e p
 
-pub record TurnAgain (t l n : List ℕ) (c : ℕ) (starts : Starts) (e x : List ℕ) (m : ℕ) (exprs : List ℕ) (round k at : ℕ) (s : Scope) : Type 0 where
+pub record TurnAgain (t l n : List ℕ) (c : ℕ) (starts : Starts) (e x : List ℕ) (m : ℕ) (exprs : List ℕ) (round k : ℕ) (p : Partial) (s : Scope) : Type 0 where
   pub stand : TurnStand t l n c starts e x m exprs s
-  pub waited : HasWaited round s (equateIn s k) at
+  pub waited : HasWaited round s (equateIn s k) p
 
 -- ---- said of the references lent
 
@@ -97,20 +99,29 @@ TurnKnown t l n c starts e x m exprs P =
     (s : Scope) → TurnStand (now (t .entry)) (now (l .entry)) (now (n .entry)) c starts (now (e .entry)) (now (x .entry)) m (now (exprs .entry)) s
     → P s
 
-abbrev pub AgainReady : Lent → Lent → Lent → ℕ → Starts → Lent → Lent → ℕ → Lent → ℕ → ℕ → ℕ → Type 0
-AgainReady t l n c starts e x m exprs round k at =
-    Some (TurnAgain (now t) (now l) (now n) c starts (now e) (now x) m (now exprs) round k at)
+abbrev pub AgainReady : Lent → Lent → Lent → ℕ → Starts → Lent → Lent → ℕ → Lent → ℕ → ℕ → Partial → Type 0
+AgainReady t l n c starts e x m exprs round k p =
+    Some (TurnAgain (now t) (now l) (now n) c starts (now e) (now x) m (now exprs) round k p)
 
-abbrev pub AgainKnown : OverCall → OverCall → OverCall → ℕ → Starts → OverCall → OverCall → ℕ → OverCall → ℕ → ℕ → ℕ → (Scope → Type 0)
+abbrev pub AgainKnown : OverCall → OverCall → OverCall → ℕ → Starts → OverCall → OverCall → ℕ → OverCall → ℕ → ℕ → Partial → (Scope → Type 0)
     → Type 0
-AgainKnown t l n c starts e x m exprs round k at P =
+AgainKnown t l n c starts e x m exprs round k p P =
     (s : Scope) → TurnAgain (now (t .entry)) (now (l .entry)) (now (n .entry)) c starts (now (e .entry)) (now (x .entry)) m
-    (now (exprs .entry)) round k at s → P s
+    (now (exprs .entry)) round k p s → P s
 
 -- an evaluation: the turn, and one evaluation more
 pub record EvaluationGives (s : Scope) (e : Equate) (evaluations : ℕ) (r : Evaluation) : Type 0 where
   pub gives : TurnGives s e (r .answer)
   pub counted : r .evaluations ≡ evaluations + 1
+
+-- ---- the table of how far the sums have come
+
+-- its kth row: the sum's bits, and the place
+abbrev pub partialAt : List ℕ → ℕ → Partial
+partialAt w k = record { sum = signedOf 64 (getD w (k * 2) 0); at = getD w (k * 2 + 1) 0 }
+
+abbrev pub putPartial : List ℕ → ℕ → Partial → List ℕ
+putPartial w k p = set (set w (k * 2) (bits 64 (p .sum))) (k * 2 + 1) (p .at)
 
 -- ---- all rounds
 
@@ -127,7 +138,7 @@ ResolveAgrees t e x m (resolved.Refused n i) (refused r) = (n ≡ r .number) × 
 
 pub record RoundsStand (t l n : List ℕ) (c : ℕ) (starts : Starts) (e x : List ℕ) (m : ℕ) (exprs waits : List ℕ) (base : ℕ) (σ : State) : Type 0 where
   pub stand : TurnStand t l n c starts e x m exprs (pendingScope base σ)
-  pub room : m ≤ length waits
+  pub room : m * 2 ≤ length waits
 
 pub record ResolveReady (t l n : Lent) (c : ℕ) (starts : Starts) (e x : Lent) (m : ℕ) (exprs waits : Lent) : Type 0 where
   pub base : ℕ

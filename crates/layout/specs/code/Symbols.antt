@@ -1,6 +1,6 @@
 -- Symbols resolved once the lines are read: what that asks of the buffers, and what it leaves.
 use denote.Ref.{now}
-use Prim.Native.Nat.{ℕ, _+_, _≤_}
+use Prim.Native.Nat.{ℕ, _+_, _*_, _≤_}
 use mathlib.Core.Path.{_≡_}
 use mathlib.Core.List.{List, []}
 use lib.ListN.{length}
@@ -22,7 +22,7 @@ use Rattle.layout.specs.code.Lent.{Lent, OverCall}
 use Rattle.layout.specs.code.Placed.{LabelsPlaced}
 use Rattle.layout.specs.code.Names.{EquateTable}
 
--- what the lines left, with room for the index of the equates' names and for where they wait
+-- what the lines left, with room for the index of the equates' names and for how far their sums come
 pub record SymbolsStand (t : List ℕ) (base : ℕ) (st : Counters) (l n e ix x w d lw : List ℕ) (k : Room) (σ : State) : Type 0 where
   pub text : length t ≤ textLimit
   pub base-limit : base ≤ baseLimit
@@ -31,7 +31,7 @@ pub record SymbolsStand (t : List ℕ) (base : ℕ) (st : Counters) (l n e ix x 
   pub stored : StoredStand t k (st .rest .own .stored) (dataStore d lw) (σ .rest .own .stored)
   pub index : Indexed [] ix
   pub index-room : buckets + equateLimit ≤ length ix
-  pub waits-room : equateLimit ≤ length w
+  pub waits-room : equateLimit * 2 ≤ length w
 
 pub record SymbolsReady (t : Lent) (base : ℕ) (st : Counters) (l n e ix x w d lw : Lent) : Type 0 where
   pub room : Room

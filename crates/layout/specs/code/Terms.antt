@@ -1,23 +1,24 @@
--- Expressions term by term: what stands before a term, its value, what joins the next one, and a term that waits.
-use Prim.Native.Nat.{ℕ, _≤_, _<_}
+-- Expressions term by term: what stands before a term, its value, what joins the next one, and how far a sum has come.
+use Prim.Native.Nat.{ℕ, zero, suc, _≤_, _<_}
 use mathlib.Core.Path.{_≡_}
 use mathlib.Core.List.{List, [], _∷_}
 use mathlib.Core.Bool.{Bool, true, false, not}
 use mathlib.Core.Option.{Option, none, some}
 use lib.ListN.{length}
-use lib.IntN.{ℤ, pos}
+use lib.IntN.{ℤ}
 use Rattle.numbers.specs.Results.{value, refused}
 use Rattle.numbers.specs.declared.ints.Checked.{Checked}
 use Rattle.numbers.specs.code.Meanings.{checkedValue}
 use Rattle.layout.specs.declared.tokens.Token as code
 use Rattle.layout.specs.declared.tokens.Token.the-variants as kind
+use Rattle.layout.specs.declared.expr.Partial.{Partial}
 use Rattle.layout.specs.declared.expr.Evaluated as answer
 use Rattle.layout.specs.declared.expr.Evaluated.the-variants.{Value, Waits, Refused}
 use Rattle.layout.specs.declared.expr.Term.{Term}
 use Rattle.layout.specs.declared.expr.Term.the-variants as term-kind
 use Rattle.layout.specs.declared.expr.Joint.{Joint}
-use Rattle.layout.specs.declared.expr.Joint.the-variants as joint-kind
-use Rattle.layout.specs.Expressions.{Token, plus, minus, dot, number, name, unreadable, Evaluated, positive, term, onFit, addTerm, sumFrom, evaluate}
+use Rattle.layout.specs.declared.expr.Joint.the-variants.{Operator, End, Malformed}
+use Rattle.layout.specs.Expressions.{Token, plus, minus, dot, number, name, unreadable, Evaluated, positive, Wanted, term, joint, onFit, addTerm, sumFrom, evaluate}
 use Rattle.layout.specs.code.Tokens.{tokenOf, TokenWithin, tokensFrom, spacedIn}
 
 -- ---- a term
@@ -98,63 +99,59 @@ NoJoint (number z ∷ ts) = Unit
 NoJoint (name n ∷ ts) = Unit
 NoJoint (unreadable ∷ ts) = Unit
 
-pub record JointStands (oneSpace : Bool) (s : List ℕ) (at : ℕ) (t : Token) (after : ℕ) : Type 0 where
-  pub leads : tokensFrom oneSpace s at ≡ t ∷ tokensFrom oneSpace s after
+abbrev pub operatorOf : Bool → Token
+operatorOf false = plus
+operatorOf true = minus
+
+pub record JointStands (oneSpace : Bool) (s : List ℕ) (at : ℕ) (joining : Bool) (after : ℕ) : Type 0 where
+  pub leads : tokensFrom oneSpace s at ≡ operatorOf joining ∷ tokensFrom oneSpace s after
   pub further : at < after
   pub within : after ≤ length s
 
 abbrev pub JointFrom : Bool → List ℕ → ℕ → Joint → Type 0
-JointFrom oneSpace s at (joint-kind.Plus after) = JointStands oneSpace s at plus after
-JointFrom oneSpace s at (joint-kind.Minus after) = JointStands oneSpace s at minus after
-JointFrom oneSpace s at joint-kind.End = tokensFrom oneSpace s at ≡ []
-JointFrom oneSpace s at joint-kind.Malformed = NoJoint (tokensFrom oneSpace s at)
+JointFrom oneSpace s at (Operator joining after) = JointStands oneSpace s at joining after
+JointFrom oneSpace s at End = tokensFrom oneSpace s at ≡ []
+JointFrom oneSpace s at Malformed = NoJoint (tokensFrom oneSpace s at)
+
+-- where a sum goes on: no operator stands before the first term
+abbrev pub JointAt : Bool → List ℕ → ℕ → Joint → Type 0
+JointAt oneSpace s zero r = r ≡ Operator positive 0
+JointAt oneSpace s (suc n) r = JointFrom oneSpace s (suc n) r
 
 -- ---- evaluations
 
 abbrev pub evaluatedOf : answer.Evaluated → Evaluated
 evaluatedOf (Value z) = value (some z)
-evaluatedOf (Waits at) = value none
+evaluatedOf (Waits p) = value none
 evaluatedOf (Refused n) = refused n
 
-abbrev pub isUnknown : Option ℤ → Bool
-isUnknown none = true
-isUnknown (some z) = false
+-- what is to come at a place: a term at the start, an operator behind a term
+abbrev pub wantedAt : ℕ → Wanted
+wantedAt zero = term positive positive
+wantedAt (suc n) = joint
 
--- is the operand that tokens begin with a name without a value? And the one behind their signs?
-abbrev pub operandWaits : (List ℕ → Option ℤ) → List Token → Bool
-operandWaits look [] = false
-operandWaits look (plus ∷ ts) = false
-operandWaits look (minus ∷ ts) = false
-operandWaits look (dot ∷ ts) = false
-operandWaits look (number z ∷ ts) = false
-operandWaits look (name n ∷ ts) = isUnknown (look n)
-operandWaits look (unreadable ∷ ts) = false
+-- the sum of a text's terms, from where it has come to, by a look-up
+abbrev pub sumOn : Bool → List ℕ → ℤ → Partial → (List ℕ → Option ℤ) → Evaluated
+sumOn oneSpace s here p look = sumFrom look here (p .sum) (wantedAt (p .at)) (tokensFrom oneSpace s (p .at))
 
-unfoldable pub termWaits : (List ℕ → Option ℤ) → List Token → Bool
-termWaits look ts = operandWaits look (unsigned ts)
+-- a text's evaluation by a look-up
+abbrev pub evaluationOf : Bool → List ℕ → ℤ → (List ℕ → Option ℤ) → Evaluated
+evaluationOf oneSpace s here look = evaluate look here (spacedIn oneSpace s)
 
 -- every name that has a value keeps it
 abbrev pub Extends : (f g : List ℕ → Option ℤ) → Type 0
 Extends f g = (n : List ℕ) (z : ℤ) → f n ≡ some z → g n ≡ some z
 
--- f waits at a place: while the term there waits, it comes to no value, whatever other names get values
-pub record WaitsAt (look : List ℕ → Option ℤ) (oneSpace : Bool) (s : List ℕ) (f : (List ℕ → Option ℤ) → Evaluated) (at : ℕ) : Type 0 where
-  pub within : at ≤ length s
-  pub waits : (later : List ℕ → Option ℤ) → Extends look later → termWaits later (tokensFrom oneSpace s at) ≡ true → f later ≡ value none
+-- f goes on from there: whatever other names get values, it is what the sum comes to
+abbrev pub GoesOn : (List ℕ → Option ℤ) → Bool → List ℕ → ℤ → ((List ℕ → Option ℤ) → Evaluated) → Partial → Type 0
+GoesOn look oneSpace s here f p = (later : List ℕ → Option ℤ) → Extends look later → f later ≡ sumOn oneSpace s here p later
 
-abbrev pub Waiting : (List ℕ → Option ℤ) → Bool → List ℕ → ((List ℕ → Option ℤ) → Evaluated) → answer.Evaluated → Type 0
-Waiting look oneSpace s f (Value z) = Unit
-Waiting look oneSpace s f (Waits at) = WaitsAt look oneSpace s f at
-Waiting look oneSpace s f (Refused n) = Unit
+abbrev pub Waiting : (List ℕ → Option ℤ) → Bool → List ℕ → ℤ → ((List ℕ → Option ℤ) → Evaluated) → answer.Evaluated → Type 0
+Waiting look oneSpace s here f (Value z) = Unit
+Waiting look oneSpace s here f (Waits p) = GoesOn look oneSpace s here f p
+Waiting look oneSpace s here f (Refused n) = Unit
 
--- an answer is what f gives by the look-up; where it waits, it says where
-pub record Evaluates (look : List ℕ → Option ℤ) (oneSpace : Bool) (s : List ℕ) (f : (List ℕ → Option ℤ) → Evaluated) (r : answer.Evaluated) : Type 0 where
+-- an answer is what f gives by the look-up; where it waits, it says from where f goes on
+pub record Evaluates (look : List ℕ → Option ℤ) (oneSpace : Bool) (s : List ℕ) (here : ℤ) (f : (List ℕ → Option ℤ) → Evaluated) (r : answer.Evaluated) : Type 0 where
   pub answers : evaluatedOf r ≡ f look
-  pub waiting : Waiting look oneSpace s f r
-
--- the sum of a text's terms, and its evaluation, by a look-up
-abbrev pub sumOf : Bool → List ℕ → ℤ → (List ℕ → Option ℤ) → Evaluated
-sumOf oneSpace s here look = sumFrom look here (pos 0) (term positive positive) (tokensFrom oneSpace s 0)
-
-abbrev pub evaluationOf : Bool → List ℕ → ℤ → (List ℕ → Option ℤ) → Evaluated
-evaluationOf oneSpace s here look = evaluate look here (spacedIn oneSpace s)
+  pub waiting : Waiting look oneSpace s here f r

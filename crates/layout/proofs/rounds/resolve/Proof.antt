@@ -12,6 +12,8 @@ use mir.Syntax.{w64}
 use mir.Val.{SFits}
 use mir.Facts.{toZ-ofZ}
 use borrow.Author.Tests.{eqb-true, eqb-false}
+use Rattle.numbers.proofs.Integers.{fit-some}
+use Rattle.numbers.proofs.Readings.{fit-in64}
 use Rattle.layout.specs.Bytes.{put}
 use Rattle.layout.specs.Limits.{equateSize}
 use Rattle.layout.specs.Records.{Field, fieldBytes}
@@ -21,7 +23,7 @@ use Rattle.layout.specs.code.Resolves.{RoundsStand}
 use Rattle.layout.proofs.KnownLaws.{equates-lent}
 use Rattle.layout.proofs.RoundSteps.{frameOf, Standing, standing, Walking, Rounding, Here, walk-here, round-first, round-begins, round-next, round-stuck}
 use Rattle.layout.proofs.RoundSteps.{next-kept, next-waits, next-found, next-refused, some-pending, few-evaluations}
-use Rattle.layout.proofs.RoundSteps.{again-here, gave-here, pending-here, found-here, line-here, record-here, waits-small, Over, over-done, over-stopped, refusal-at}
+use Rattle.layout.proofs.RoundSteps.{again-here, gave-here, pending-here, found-here, line-here, record-here, Over, over-done, over-stopped, refusal-at}
 use borrow.Author.Needs.{needs}
 use Rattle.layout.proofs.rounds.resolve.Statement.{statement}
 use Rattle.layout.proofs.rounds.resolve.Tie as tie
@@ -79,56 +81,34 @@ is-pending-requires c κs =
 pending : (c : tie.Then1 Inv-loop μ-loop Inv-rounds μ-rounds) → here (c .before .before .before) .one .found ≡ none
 pending c = pending-here _ (standing (c .before .before .before .before .before .before .before .before .before .before .before .before .before .before .pre .stands)) _ _ _ _ _ _ _ (here (c .before .before .before)) (eqb-true _ _ (sym (c .before .is-pending .ensures) ∙ c .if1 .taken))
 
-mul-evaluate : tie.Need-mul-evaluate Inv-loop μ-loop Inv-rounds μ-rounds
-mul-evaluate c =
-    let h = here (c .before .before .before .before) in
-    omega (arith, h .walk .table .rows .counted, h .walk .table .rows .few, c .before .before .before .before .loop-test .taken)
-
-slice-read-evaluate : tie.Need-slice-read-evaluate Inv-loop μ-loop Inv-rounds μ-rounds
-slice-read-evaluate c =
+partial-at-requires : tie.Need-partial-at-requires Inv-loop μ-loop Inv-rounds μ-rounds
+partial-at-requires c κs =
     let h = here (c .before .before .before .before .before) in
     omega (arith, h .walk .room, h .walk .roomy, c .before .before .before .before .before .loop-test .taken)
 
-cast-evaluate : tie.Need-cast-evaluate Inv-loop μ-loop Inv-rounds μ-rounds
-cast-evaluate c = omega (arith, c .slice-known3 .given (c .before .before .before .before .before .before .loop .k))
-
 evaluate-requires : tie.Need-evaluate-requires Inv-loop μ-loop Inv-rounds μ-rounds
 evaluate-requires c κs =
-    let h = here (c .before .before .before .before .before) in
-    let p = pending (c .before .before) in
-    (record { it = _; stands = again-here _ (standing (c .before .before .before .before .before .before .before .before .before .before .before .before .before .before .before .before .pre .stands)) _ _ _ _ _ _ _ h _ refl (c .before .before .before .before .before .loop-test .taken) p }, c .before .before .before .before .before .loop-test .taken, few-evaluations _ _ _ _ _ _ _ _ h p)
+    let h = here (c .before .before .before .before .before .before) in
+    let p = pending (c .before .before .before) in
+    (record { it = _; stands = again-here _ (standing (c .before .before .before .before .before .before .before .before .before .before .before .before .before .before .before .before .before .pre .stands)) _ _ _ _ _ _ _ h _ (c .partial-at .ensures) (c .before .before .before .before .before .before .loop-test .taken) p }, c .before .before .before .before .before .before .loop-test .taken, few-evaluations _ _ _ _ _ _ _ _ h p)
 
 put-found-requires : tie.Need-put-found-requires Inv-loop μ-loop Inv-rounds μ-rounds
 put-found-requires c κs =
-    let h = here (c .before .before .before .before .before .before .before .before .before .before) in
-    omega (arith, equates-lent (h .walk .table .rows), c .before .before .before .before .before .before .before .before .before .before .loop-test .taken)
+    let h = here (c .before .before .before .before .before .before .before .before .before .before .before) in
+    omega (arith, equates-lent (h .walk .table .rows), c .before .before .before .before .before .before .before .before .before .before .before .loop-test .taken)
 
 sub-pending : tie.Need-sub-pending Inv-loop μ-loop Inv-rounds μ-rounds
-sub-pending c = some-pending _ _ _ _ _ _ _ _ (here (c .before .before .before .before .before .before .before .before .before .before .before .before .before)) (pending (c .before .before .before .before .before .before .before .before .before .before))
+sub-pending c = some-pending _ _ _ _ _ _ _ _ (here (c .before .before .before .before .before .before .before .before .before .before .before .before .before .before)) (pending (c .before .before .before .before .before .before .before .before .before .before .before))
 
-cast-waits : tie.Need-cast-waits Inv-loop μ-loop Inv-rounds μ-rounds
-cast-waits c =
-    let h = here (c .before .before .before .before .before .before .before .before .before) in
-    let p = pending (c .before .before .before .before .before .before) in
-    let s = standing (c .before .before .before .before .before .before .before .before .before .before .before .before .before .before .before .before .before .before .before .before .pre .stands) in
-    let g = c .before .before .before .evaluate .ensures _ (again-here _ s _ _ _ _ _ _ _ h _ refl (c .before .before .before .before .before .before .before .before .before .loop-test .taken) p) in
-    let t = gave-here _ s _ _ _ _ _ _ _ h _ (g .gives) in
-    omega (arith, waits-small _ s _ _ _ _ _ _ _ h _ (rw (c .before .answer2 .given .1) at (t .blocked)))
-
-mul-waits : tie.Need-mul-waits Inv-loop μ-loop Inv-rounds μ-rounds
-mul-waits c =
-    let h = here (c .before .before .before .before .before .before .before .before .before) in
-    omega (arith, h .walk .table .rows .counted, h .walk .table .rows .few, c .before .before .before .before .before .before .before .before .before .loop-test .taken)
-
-slice-write-waits : tie.Need-slice-write-waits Inv-loop μ-loop Inv-rounds μ-rounds
-slice-write-waits c =
-    let h = here (c .before .before .before .before .before .before .before .before .before) in
-    omega (arith, h .walk .room, h .walk .roomy, c .before .before .before .before .before .before .before .before .before .loop-test .taken)
+put-partial-requires : tie.Need-put-partial-requires Inv-loop μ-loop Inv-rounds μ-rounds
+put-partial-requires c κs =
+    let h = here (c .before .before .before .before .before .before .before .before .before .before .before) in
+    omega (arith, h .walk .room, h .walk .roomy, c .before .before .before .before .before .before .before .before .before .before .before .loop-test .taken)
 
 get-equate-requires : tie.Need-get-equate-requires Inv-loop μ-loop Inv-rounds μ-rounds
 get-equate-requires c κs =
-    let h = here (c .before .before .before .before .before .before .before .before .before .before) in
-    omega (arith, equates-lent (h .walk .table .rows), c .before .before .before .before .before .before .before .before .before .before .loop-test .taken)
+    let h = here (c .before .before .before .before .before .before .before .before .before .before .before) in
+    omega (arith, equates-lent (h .walk .table .rows), c .before .before .before .before .before .before .before .before .before .before .before .loop-test .taken)
 
 loop-again : tie.Need-loop-again Inv-loop μ-loop Inv-rounds μ-rounds
 loop-again c =
@@ -141,20 +121,21 @@ loop-again c =
           ⊎-elim
           (λ w.
           let p = pending-here _ s _ _ _ _ _ _ _ h (eqb-true _ _ (sym (is .ensures) ∙ w .0 .taken)) in
-          let g = w .3 .ensures _ (again-here _ s _ _ _ _ _ _ _ h _ refl (test .loop-test .taken) p) in
+          let g = w .4 .ensures _ (again-here _ s _ _ _ _ _ _ _ h _ (w .3 .ensures) (test .loop-test .taken) p) in
           let t = gave-here _ s _ _ _ _ _ _ _ h _ (g .gives) in
-          let fit : SFits w64 (w .5 .given .0 .0) = search needs in
-          rw (w .12, w .13 ∙ g .counted)
-          (next-found _ _ _ _ _ _ _ _ h p (w .5 .given .0 .0) (ap evaluatedOf (sym (w .5 .given .1)) ∙ t .answers) _ (ap length (w .11) ∙ w .8 .kept .0)
-          (w .11 ∙ (rw (toZ-ofZ fit) at (w .8 .ensures)) ∙ ap (λ (fs : List Field). put (l .k * equateSize) (fieldBytes fs) (l .equates)) (record-here _ s _ _ _ _ _ _ _ h (w .5 .given .0 .0)))
-          _ (omega (arith, w .14, some-pending _ _ _ _ _ _ _ _ h p))))
+          let fit : SFits w64 (w .6 .given .0 .0) = search needs in
+          rw (w .13, w .14 ∙ g .counted)
+          (next-found _ _ _ _ _ _ _ _ h p (w .6 .given .0 .0) (ap evaluatedOf (sym (w .6 .given .1)) ∙ t .answers) _ (ap length (w .12) ∙ w .9 .kept .0)
+          (w .12 ∙ (rw (toZ-ofZ fit) at (w .9 .ensures)) ∙ ap (λ (fs : List Field). put (l .k * equateSize) (fieldBytes fs) (l .equates)) (record-here _ s _ _ _ _ _ _ _ h (w .6 .given .0 .0)))
+          _ (omega (arith, w .15, some-pending _ _ _ _ _ _ _ _ h p))))
           (⊎-elim
           (λ w.
           let p = pending-here _ s _ _ _ _ _ _ _ h (eqb-true _ _ (sym (is .ensures) ∙ w .0 .taken)) in
-          let g = w .3 .ensures _ (again-here _ s _ _ _ _ _ _ _ h _ refl (test .loop-test .taken) p) in
+          let g = w .4 .ensures _ (again-here _ s _ _ _ _ _ _ _ h _ (w .3 .ensures) (test .loop-test .taken) p) in
           let t = gave-here _ s _ _ _ _ _ _ _ h _ (g .gives) in
-          rw (w .7, w .9 ∙ g .counted, w .10)
-          (next-waits _ _ _ _ _ _ _ _ h p (ap evaluatedOf (sym (w .5 .given .1)) ∙ t .answers) _ (rw (w .5 .given .1) at (t .blocked)) _ (w .8)))
+          let fit : SFits w64 (w .6 .given .0 .0 .sum) = record { sfits = w .7 .given .0 .1 .1 .0 .1 } in
+          rw (w .12, w .14 ∙ g .counted, w .15)
+          (next-waits _ _ _ _ _ _ _ _ h p (ap evaluatedOf (sym (w .6 .given .1)) ∙ t .answers) _ (fit-in64 _ _ (fit-some _ fit)) (rw (w .6 .given .1) at (t .blocked)) _ (w .13 ∙ w .9 .ensures)))
           (λ w.
           let o = found-here _ s _ _ _ _ _ _ _ h (eqb-false _ _ (sym (is .ensures) ∙ w .0 .left)) in
           rw (w .1, w .2, w .3, w .4) (next-kept _ _ _ _ _ _ _ _ h (o .0) (o .1))))
@@ -199,12 +180,12 @@ over c base σ s =
     (λ w.
     let h = walk-here _ _ _ _ _ _ _ _ (w .1 .inv .1 _ _ _ _ (standing s) (round-begins _ _ _ _ _ _ (o .inv .1 base σ s) (w .0 .taken))) (w .2 .taken) in
     let p = pending-here _ (standing s) _ _ _ _ _ _ _ h (eqb-true _ _ (sym (w .4 .ensures) ∙ w .5 .taken)) in
-    let g = w .8 .ensures _ (again-here _ (standing s) _ _ _ _ _ _ _ h _ refl (w .2 .taken) p) in
+    let g = w .9 .ensures _ (again-here _ (standing s) _ _ _ _ _ _ _ h _ (w .8 .ensures) (w .2 .taken) p) in
     let t = gave-here _ (standing s) _ _ _ _ _ _ _ h _ (g .gives) in
-    rw (w .14, w .15)
-    (over-stopped _ _ _ _ _ _ _ (h .walk .kept) (h .walk .room) (w .19)
-    (next-refused _ _ _ _ _ _ _ _ h p (w .10 .given .0 .0) (ap evaluatedOf (sym (w .10 .given .1)) ∙ t .answers)
-    ∙ refusal-at (w .20) (w .21 ∙ ap (λ r. r .line) (w .13 .ensures) ∙ line-here _ (standing s) _ _ _ _ _ _ _ h))))
+    rw (w .15, w .16)
+    (over-stopped _ _ _ _ _ _ _ (h .walk .kept) (h .walk .room) (w .20)
+    (next-refused _ _ _ _ _ _ _ _ h p (w .11 .given .0 .0) (ap evaluatedOf (sym (w .11 .given .1)) ∙ t .answers)
+    ∙ refusal-at (w .21) (w .22 ∙ ap (λ r. r .line) (w .14 .ensures) ∙ line-here _ (standing s) _ _ _ _ _ _ _ h))))
     (λ w.
     let m = w .1 .inv .1 _ _ _ _ (standing s) (round-begins _ _ _ _ _ _ (o .inv .1 base σ s) (w .0 .taken)) in
     rw (w .6, w .7)
@@ -253,17 +234,13 @@ resolve-spec =
     add-round
     loop-holds
     is-pending-requires
-    mul-evaluate
-    slice-read-evaluate
-    cast-evaluate
+    partial-at-requires
     evaluate-requires
     (λ c. search needs)  -- enum-known-answer
     put-found-requires
     sub-pending
     (λ c. search needs)  -- enum-known-answer-2
-    cast-waits
-    mul-waits
-    slice-write-waits
+    put-partial-requires
     (λ c. search needs)  -- enum-known-answer-3
     get-equate-requires
     (λ c. search needs)  -- add-k

@@ -1,6 +1,7 @@
 -- `rounds::turn`: 14, 15, then the expression's evaluation.
 use mathlib.Core.Path.{ap}
 use native.Mathlib.Omega.{arith}
+use Rattle.layout.specs.code.Terms.{evaluationOf}
 use Rattle.layout.proofs.AddressLaws.{placed-indexed}
 use Rattle.layout.proofs.KnownLaws.{equates-lent}
 use Rattle.layout.proofs.TurnTables.{expr-lent, expr-coded, expr-address, label-told, value-told, evaluated-told, gives-label, gives-known, gives-evaluated}
@@ -66,7 +67,7 @@ returns-3 c =
     (label-told d a (s .pre .1) _ (i .before .equate-name .ensures) _ _ (i .is-label .ensures (names .base) (names .state) (d .names .labels)) (k .before .if1 .left))
     (value-told d a (s .pre .1) _ (i .before .equate-name .ensures) _ _ (k .is-constant .ensures (names .known) (d .names .equates)) (g .before .if2 .left))
     _
-    (evaluated-told d a (s .pre .1) _ _ (rw (g .get-expr .ensures) at (c .before .before .span-bytes .ensures)) (ap (λ r. r .«one_space») (g .get-expr .ensures)) _
+    (evaluated-told d a (s .pre .1) _ _ (rw (g .get-expr .ensures) at (c .before .before .span-bytes .ensures)) (ap (λ r. r .«one_space») (g .get-expr .ensures)) evaluationOf _
     (expr-address d a (s .pre .1) _ (ap (λ r. r .place) (g .get-expr .ensures)) _ (c .before .address .ensures)) _ (c .eval-expr .ensures names (d .names)))
 
 pub turn-spec : {M : Type 1} → statement M

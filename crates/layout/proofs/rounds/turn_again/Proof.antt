@@ -1,8 +1,9 @@
--- `rounds::turn_again`: 15, or the term that it waits at, or its whole turn.
+-- `rounds::turn_again`: 15, or what its sum comes to from where it had come to.
 use mathlib.Core.Path.{ap}
 use native.Mathlib.Omega.{arith}
+use Rattle.layout.specs.code.Terms.{sumOn}
 use Rattle.layout.proofs.KnownLaws.{equates-lent}
-use Rattle.layout.proofs.TurnTables.{expr-lent, value-told, waits-told, again-known, again-waits}
+use Rattle.layout.proofs.TurnTables.{expr-lent, expr-coded, expr-address, value-told, evaluated-told, again-known, again-summed}
 use borrow.Author.Needs.{needs}
 use Rattle.layout.proofs.rounds.turn_again.Statement.{statement}
 use Rattle.layout.proofs.rounds.turn_again.Tie as tie
@@ -22,9 +23,14 @@ get-expr-requires c κs =
     let s = c .before .before .before .before .before .before .before .before .before in
     expr-lent (s .pre .0 .stands .stand) (s .args .k) (s .pre .1)
 
-term-waits-requires : tie.Need-term-waits-requires
-term-waits-requires c κs =
+address-requires : tie.Need-address-requires
+address-requires c κs =
     let s = c .before .before .before .before .before .before .before .before .before .before .before .before .before in
+    expr-coded (s .pre .0 .stands .stand) (s .args .k) (s .pre .1) _ (ap (λ r. r .place) (c .before .before .before .get-expr .ensures))
+
+sum-terms-requires : tie.Need-sum-terms-requires
+sum-terms-requires c κs =
+    let s = c .before .before .before .before .before .before .before .before .before .before .before .before .before .before in
     record { it = s .pre .0 .it; stands = s .pre .0 .stands .stand .names }
 
 returns : tie.Need-returns
@@ -32,28 +38,22 @@ returns c =
     let k = c .before in
     let s = c .before .before .before .before .before .before .before .before .before in
     λ names d.
-    again-known names _ (s .args .at) (d .waited (λ z. omega (arith, z)))
+    again-known names _ (s .args .from) (d .waited (λ z. omega (arith, z)))
     (value-told (d .stand) (s .args .k) (s .pre .1) _ (k .before .equate-name .ensures) _ _ (k .is-constant .ensures (names .known) (d .stand .names .equates)) (c .if1 .taken))
 
 returns-2 : tie.Need-returns-2
 returns-2 c =
-    let t = c .before in
-    let g = t .before .before .before .before in
+    let g = c .before .before .before .before .before in
     let k = g .before .before in
     let s = c .before .before .before .before .before .before .before .before .before .before .before .before .before .before .before in
+    let a = s .args .k in
     λ names d.
-    again-waits names _ (s .args .at) (d .waited (λ z. omega (arith, z)))
-    (value-told (d .stand) (s .args .k) (s .pre .1) _ (k .before .equate-name .ensures) _ _ (k .is-constant .ensures (names .known) (d .stand .names .equates)) (g .before .if1 .left))
-    (waits-told (d .stand) (s .args .k) (s .pre .1) _ _ (rw (g .get-expr .ensures) at (t .before .span-bytes .ensures)) (ap (λ r. r .«one_space») (g .get-expr .ensures))
-    (s .args .at) _ (t .term-waits .ensures names (d .stand .names)) (c .if2 .taken))
-
-turn-requires : tie.Need-turn-requires
-turn-requires c κs =
-    let s = c .before .before .before .before .before .before .before .before .before .before .before .before .before .before .before in
-    (record { it = s .pre .0 .it; stands = s .pre .0 .stands .stand }, s .pre .1)
-
-returns-3 : tie.Need-returns-3
-returns-3 c = λ names d. c .turn .ensures names (d .stand)
+    again-summed names _ (s .args .from) (d .waited (λ z. omega (arith, z)))
+    (value-told (d .stand) a (s .pre .1) _ (k .before .equate-name .ensures) _ _ (k .is-constant .ensures (names .known) (d .stand .names .equates)) (g .before .if1 .left))
+    _
+    (evaluated-told (d .stand) a (s .pre .1) _ _ (rw (g .get-expr .ensures) at (c .before .before .span-bytes .ensures)) (ap (λ r. r .«one_space») (g .get-expr .ensures))
+    (λ oneSpace x here. sumOn oneSpace x here (s .args .from)) _
+    (expr-address (d .stand) a (s .pre .1) _ (ap (λ r. r .place) (g .get-expr .ensures)) _ (c .before .address .ensures)) _ (c .sum-terms .ensures names (d .stand .names)))
 
 pub turn-again-spec : {M : Type 1} → statement M
 turn-again-spec =
@@ -66,7 +66,6 @@ turn-again-spec =
     (λ c. search needs)  -- cast-t16
     (λ c. search needs)  -- cast-t17
     (λ c κs. search needs)  -- span-bytes-requires
-    term-waits-requires
-    returns-2
-    turn-requires
-    returns-3)
+    address-requires
+    sum-terms-requires
+    returns-2)
