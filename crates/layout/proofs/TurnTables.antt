@@ -32,6 +32,7 @@ use Rattle.layout.specs.code.Resolves.{knownExpr, TurnStand, noKnown, eq
 use Rattle.layout.proofs.TableLaws.{read-row, table-lent}
 use Rattle.layout.proofs.KnownLaws.{fits-at, name-back}
 use Rattle.layout.proofs.TermLaws.{extends-self}
+use Rattle.layout.proofs.ResolveLaws.{placeOf}
 use Rattle.layout.proofs.RoundSteps.{turn-label, turn-known, turn-evaluates}
 
 -- ---- the expression's record
@@ -53,13 +54,10 @@ code-small section.Text o h = omega arith
 code-small section.Data o h = omega arith
 code-small section.Bss o h = omega arith
 
--- an equate's own `.`, and what is evaluated of its expression
-abbrev placeIn : Scope → Equate → ℤ
-placeIn s e = pos (addressAt (s .base) (s .state) (e .place))
-
+-- what is summed or evaluated of an equate's expression
 abbrev EvaluatesOne : Scope → Equate → (Bool → List ℕ → ℤ → (List ℕ → Option ℤ) → Evaluated) → answer.Evaluated → Type 0
 EvaluatesOne s e f r =
-    Evaluates (lookIn s) (e .expr .oneSpace) (e .expr .source .bytes) (placeIn s e) (f (e .expr .oneSpace) (e .expr .source .bytes) (placeIn s e)) r
+    Evaluates (lookIn s) (e .expr .oneSpace) (e .expr .source .bytes) (placeOf (s .base) (s .state) e) (f (e .expr .oneSpace) (e .expr .source .bytes) (placeOf (s .base) (s .state) e)) r
 
 module _ {t l n : List ℕ} {c : ℕ} {starts : Starts} {e x : List ℕ} {m : ℕ} {exprs : List ℕ} {s : Scope}
     (d : TurnStand t l n c starts e x m exprs s) (k : ℕ) (below : k < m) where
@@ -113,15 +111,15 @@ module _ {t l n : List ℕ} {c : ℕ} {starts : Starts} {e x : List ℕ} {m : �
     pub value-told : r ≡ isSome (constant (s .known) name) → r ≡ b → isSome (constant (s .known) (one .name .bytes)) ≡ b
     value-told h g = ap (λ (x : List ℕ). isSome (constant (s .known) x)) (sym own-name) ∙ sym h ∙ g
 
-  -- and what is summed or evaluated of its expression
+  -- and what the evaluation of the expression that was read says of its own
   module _ (bytes : List ℕ) (oneSpace : Bool) (p : bytes ≡ spanned t (record { start = exprRecordAt exprs k .start; len = exprRecordAt exprs k .len }))
       (q : oneSpace ≡ exprRecordAt exprs k .«one_space») where
     pub evaluated-told : (f : Bool → List ℕ → ℤ → (List ℕ → Option ℤ) → Evaluated) (here : ℕ) → here ≡ addressAt (s .base) (s .state) (one .place) → (r : answer.Evaluated)
         → Evaluates (lookIn s) oneSpace bytes (pos here) (f oneSpace bytes (pos here)) r → EvaluatesOne s one f r
     evaluated-told f here h r v =
-        subst (λ (x : List ℕ). Evaluates (lookIn s) (one .expr .oneSpace) x (placeIn s one) (f (one .expr .oneSpace) x (placeIn s one)) r)
+        subst (λ (x : List ℕ). Evaluates (lookIn s) (one .expr .oneSpace) x (placeOf (s .base) (s .state) one) (f (one .expr .oneSpace) x (placeOf (s .base) (s .state) one)) r)
         (p ∙ expr-bytes)
-        (subst (λ (o : Bool). Evaluates (lookIn s) o bytes (placeIn s one) (f o bytes (placeIn s one)) r) (q ∙ expr-flag)
+        (subst (λ (o : Bool). Evaluates (lookIn s) o bytes (placeOf (s .base) (s .state) one) (f o bytes (placeOf (s .base) (s .state) one)) r) (q ∙ expr-flag)
         (subst (λ (a : ℕ). Evaluates (lookIn s) oneSpace bytes (pos a) (f oneSpace bytes (pos a)) r) h v))
 
 -- ---- the turn

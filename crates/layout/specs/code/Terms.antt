@@ -99,6 +99,7 @@ NoJoint (number z ∷ ts) = Unit
 NoJoint (name n ∷ ts) = Unit
 NoJoint (unreadable ∷ ts) = Unit
 
+-- the operator by the sign that it joins with
 abbrev pub operatorOf : Bool → Token
 operatorOf false = plus
 operatorOf true = minus

@@ -9,11 +9,10 @@ use lib.ListN.{length}
 use mir.Syntax.{w64}
 use mir.Val.{SFits, toZ}
 use mir.Facts.{toZ-ofZ}
-use Rattle.numbers.specs.declared.ints.Checked.the-variants.{Fits}
 use Rattle.layout.specs.declared.expr.Joint.the-variants.{Operator}
 use Rattle.layout.specs.code.Tokens.{tokenOf}
 use Rattle.layout.specs.code.Names.{valueOf, Scope, lookIn, NamesStand}
-use Rattle.layout.specs.code.Terms.{TermStands, JointAt, termValue, AddsTerm, sumOn, GoesOn}
+use Rattle.layout.specs.code.Terms.{TermStands, JointAt, termValue, sumOn, GoesOn}
 use Rattle.layout.proofs.TermLaws.{joint-further, sum-missing, sum-waits, sum-beyond, sum-next, sum-end, sum-malformed}
 use borrow.Author.Needs.{needs}
 use Rattle.layout.proofs.expr.sum_terms.Statement.{statement}
