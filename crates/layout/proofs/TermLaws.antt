@@ -315,7 +315,14 @@ module _ (look : List ℕ → Option ℤ) (oneSpace : Bool) (s : List ℕ) (here
 
       -- a name without a value: the sum goes on from here
       pub sum-waits : none ≡ termValue look here (tokenOf s t) → Evaluates look oneSpace s here f (Waits (record { sum = sum; at = at }))
-      sum-waits e = record { answers = ends (value none) (adds look ∙ rw (← e) refl); waiting = m }
+      sum-waits e =
+          record {
+            answers = ends (value none) (adds look ∙ rw (← e) refl);
+            waiting = record {
+              waits = record { joining = joining; first = k; joint = j; own = own; operand = t; after = after; stands = w; unknown = e };
+              goes = m;
+            };
+          }
 
       module _ (v : ℤ) (e : some v ≡ termValue look here (tokenOf s t)) where
         pub sum-beyond : AddsTerm sum joining own v Beyond → Evaluates look oneSpace s here f (Refused 24)
@@ -345,7 +352,7 @@ module _ (look : List ℕ → Option ℤ) (oneSpace : Bool) (s : List ℕ) (here
 
     waits-as-sum : (q : answer.Evaluated) → Waiting look oneSpace s here (sumOn oneSpace s here unsummed) q → Waiting look oneSpace s here (evaluationOf oneSpace s here) q
     waits-as-sum (Value z) w = tt
-    waits-as-sum (Waits p) w = λ later x. sym (is-sum later) ∙ w later x
+    waits-as-sum (Waits p) w = record { waits = w .waits; goes = λ later x. sym (is-sum later) ∙ w .goes later x }
     waits-as-sum (Refused n) w = tt
 
     pub evaluates-sum : Evaluates look oneSpace s here (sumOn oneSpace s here unsummed) r → Evaluates look oneSpace s here (evaluationOf oneSpace s here) r

@@ -138,11 +138,13 @@ module _ (s : Scope) (e : Equate) where
       where
         by : (q : answer.Evaluated) → EvaluatesOne s e evaluationOf q → BlockedBy s e q
         by (Value z) v = tt
-        by (Waits p) v =
-            record {
-              no-label = free;
-              goes = λ ks y c. sym (turn-evaluates (s .base) (s .state) ks e free c) ∙ v .waiting (look (s .base) (s .state) ks) y;
-            }
+        by (Waits p) v = (
+          v .waiting .waits,
+          record {
+            no-label = free;
+            goes = λ ks y c. sym (turn-evaluates (s .base) (s .state) ks e free c) ∙ v .waiting .goes (look (s .base) (s .state) ks) y;
+          },
+        )
         by (Refused n) v = tt
 
   -- it has waited: another equate of its name is found, or its sum goes on
@@ -158,5 +160,6 @@ module _ (s : Scope) (e : Equate) where
       where
         by : (q : answer.Evaluated) → EvaluatesOne s e (λ oneSpace x here. sumOn oneSpace x here p) q → BlockedBy s e q
         by (Value z) v = tt
-        by (Waits q) v = record { no-label = b .no-label; goes = λ ks y c. b .goes ks y c ∙ v .waiting (look (s .base) (s .state) ks) y }
+        by (Waits q) v =
+            (v .waiting .waits, record { no-label = b .no-label; goes = λ ks y c. b .goes ks y c ∙ v .waiting .goes (look (s .base) (s .state) ks) y })
         by (Refused n) v = tt

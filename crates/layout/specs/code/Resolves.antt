@@ -30,7 +30,7 @@ use Rattle.layout.specs.code.Stands.{exprSoFar}
 use Rattle.layout.specs.code.Lent.{Lent, OverCall}
 use Rattle.layout.specs.code.Placed.{StartsAt}
 use Rattle.layout.specs.code.Names.{EquateTable, Scope, NamesStand}
-use Rattle.layout.specs.code.Terms.{evaluatedOf, sumOn, Extends}
+use Rattle.layout.specs.code.Terms.{evaluatedOf, sumOn, Extends, TermWaits}
 
 -- ---- an equate's turn
 
@@ -71,9 +71,12 @@ pub record Blocked (s : Scope) (e : Equate) (p : Partial) : Type 0 where
       → turn (s .base) (s .state) ks e
       ≡ sumOn (e .expr .oneSpace) (e .expr .source .bytes) (pos (addressAt (s .base) (s .state) (e .place))) p (look (s .base) (s .state) ks)
 
+-- the same, and its sum has come as far as it can: to a term without a value
 abbrev pub BlockedBy : Scope → Equate → answer.Evaluated → Type 0
 BlockedBy s e (Value z) = Unit
-BlockedBy s e (Waits p) = Blocked s e p
+BlockedBy s e (Waits p) =
+    TermWaits (look (s .base) (s .state) (s .known)) (e .expr .oneSpace) (e .expr .source .bytes) (pos (addressAt (s .base) (s .state) (e .place))) (p .at)
+    × Blocked s e p
 BlockedBy s e (Refused n) = Unit
 
 -- an answer is the equate's turn; where it waits, it says from where it goes on

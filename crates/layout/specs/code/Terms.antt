@@ -147,9 +147,25 @@ Extends f g = (n : List ℕ) (z : ℤ) → f n ≡ some z → g n ≡ some z
 abbrev pub GoesOn : (List ℕ → Option ℤ) → Bool → List ℕ → ℤ → ((List ℕ → Option ℤ) → Evaluated) → Partial → Type 0
 GoesOn look oneSpace s here f p = (later : List ℕ → Option ℤ) → Extends look later → f later ≡ sumOn oneSpace s here p later
 
+-- the term to come, behind what joins it, has no value
+pub record TermWaits (look : List ℕ → Option ℤ) (oneSpace : Bool) (s : List ℕ) (here : ℤ) (at : ℕ) : Type 0 where
+  pub joining : Bool
+  pub first : ℕ
+  pub joint : JointAt oneSpace s at (Operator joining first)
+  pub own : Bool
+  pub operand : code.Token
+  pub after : ℕ
+  pub stands : TermStands oneSpace s first own operand after
+  pub unknown : none ≡ termValue look here (tokenOf s operand)
+
+-- f has come as far as it can: to a term without a value, and goes on from there
+pub record WaitsAt (look : List ℕ → Option ℤ) (oneSpace : Bool) (s : List ℕ) (here : ℤ) (f : (List ℕ → Option ℤ) → Evaluated) (p : Partial) : Type 0 where
+  pub waits : TermWaits look oneSpace s here (p .at)
+  pub goes : GoesOn look oneSpace s here f p
+
 abbrev pub Waiting : (List ℕ → Option ℤ) → Bool → List ℕ → ℤ → ((List ℕ → Option ℤ) → Evaluated) → answer.Evaluated → Type 0
 Waiting look oneSpace s here f (Value z) = Unit
-Waiting look oneSpace s here f (Waits p) = GoesOn look oneSpace s here f p
+Waiting look oneSpace s here f (Waits p) = WaitsAt look oneSpace s here f p
 Waiting look oneSpace s here f (Refused n) = Unit
 
 -- an answer is what f gives by the look-up; where it waits, it says from where f goes on

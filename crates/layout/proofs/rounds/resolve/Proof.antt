@@ -135,7 +135,7 @@ loop-again c =
           let t = gave-here _ s _ _ _ _ _ _ _ h _ (g .gives) in
           let fit : SFits w64 (w .6 .given .0 .0 .sum) = record { sfits = w .7 .given .0 .1 .1 .0 .1 } in
           rw (w .12, w .14 ∙ g .counted, w .15)
-          (next-waits _ _ _ _ _ _ _ _ h p (ap evaluatedOf (sym (w .6 .given .1)) ∙ t .answers) _ (fit-in64 _ _ (fit-some _ fit)) (rw (w .6 .given .1) at (t .blocked)) _ (w .13 ∙ w .9 .ensures)))
+          (next-waits _ _ _ _ _ _ _ _ h p (ap evaluatedOf (sym (w .6 .given .1)) ∙ t .answers) _ (fit-in64 _ _ (fit-some _ fit)) (rw (w .6 .given .1) at (t .blocked) .1) _ (w .13 ∙ w .9 .ensures)))
           (λ w.
           let o = found-here _ s _ _ _ _ _ _ _ h (eqb-false _ _ (sym (is .ensures) ∙ w .0 .left)) in
           rw (w .1, w .2, w .3, w .4) (next-kept _ _ _ _ _ _ _ _ h (o .0) (o .1))))
