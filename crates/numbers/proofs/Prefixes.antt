@@ -110,11 +110,22 @@ unfolding startsWith
 first-byte b [] h = absurd (h refl)
 first-byte b (x ∷ xs) h = and-true (eqb x b)
 
+-- at a place: the byte there
+pub byte-there : (b : ℕ) (s : List ℕ) (at : ℕ) → at < length s → startsWith (b ∷ []) (drop at s) ≡ eqb (getD s at 0) b
+unfolding startsWith
+byte-there b s at h = rw (drop-cons s at 0 h) (and-true (eqb (getD s at 0) b))
+
 -- without its first byte a longer prefix is not there
 pub longer-prefix : (b : ℕ) (p s : List ℕ) → startsWith (b ∷ []) s ≡ false → startsWith (b ∷ p) s ≡ false
 unfolding startsWith
 longer-prefix b p [] e = refl
 longer-prefix b p (x ∷ xs) e = rw (sym (and-true (eqb x b)) ∙ e) refl
+
+-- a byte, and behind it the rest of a prefix
+pub prefix-joins : (b : ℕ) (p s : List ℕ) → startsWith (b ∷ []) s ≡ true → startsWith p (drop 1 s) ≡ true → startsWith (b ∷ p) s ≡ true
+unfolding startsWith
+prefix-joins b p [] e h = absurd (false≢true e)
+prefix-joins b p (x ∷ xs) e h = rw (and-left (eqb x b) true e) h
 
 -- two bytes as the prefix: the first two
 pub two-bytes : (b c : ℕ) (s : List ℕ) → 2 ≤ length s → startsWith (b ∷ c ∷ []) s ≡ eqb (getD s 0 0) b && eqb (getD s 1 0) c

@@ -1,16 +1,16 @@
 -- The shortcuts of numbers. A short number of a data directive: blanks before an operand, digits up to a comma, and what operand they
 -- make. A plain number: digits alone.
-use Prim.Native.Nat.{ℕ, suc, _+_, _-_, _*_, _^_, _≤_, _<_}
+use Prim.Native.Nat.{ℕ, zero, suc, _+_, _-_, _*_, _^_, _≤_, _<_}
 use mathlib.Core.Path.{_≡_, refl, sym, _∙_, ap}
 use mathlib.Core.List.{List, [], _∷_}
-use mathlib.Core.Bool.{Bool, true, false, not, _&&_, _||_, true≢false}
+use mathlib.Core.Bool.{Bool, true, false, cond, not, _&&_, _||_, true≢false}
 use mathlib.Core.Option.{Option, none, some}
-use native.Mathlib.Nat.{mul-le-mul, add-zero}
+use native.Mathlib.Nat.{mul-le-mul}
 use native.Mathlib.Numerals.{add-one}
 use native.Mathlib.Omega.{arith}
 use lib.Dec.{leb, ltb, eqb}
 use lib.ListN.{length, drop, getD, length-drop}
-use lib.Seq.{drop-cons, drop-drop, getD-drop}
+use lib.Seq.{drop-cons, drop-drop}
 use lib.IntN.{ℤ, pos}
 use borrow.Author.Tests.{le-leb, le-ltb, ne-eqb, eqb-true, leb-false, not-false}
 use Rattle.numbers.specs.declared.ints.Imm64.{Imm64}
@@ -23,9 +23,10 @@ use Rattle.numbers.specs.Text.{text, byte, leading, leadingSpaces, trimS
 use Rattle.numbers.specs.Numbers.{digitOf, allDigits, digitsFrom, digitsOf, positiveOf, signedDigits, prefixed, outerSigned, numberOf, literalOf, imm64Of}
 use Rattle.numbers.specs.code.Cursors.{operandAt}
 use Rattle.numbers.specs.code.Meanings.{imm64Value}
+use Rattle.numbers.specs.code.Starts.{leadingZeros, passedZeros}
 use Rattle.numbers.specs.code.Shorts.{DigitsMean, DigitsOf, ShortMeans, ShortOf, PlainMeans, PlainOf}
 use Rattle.numbers.proofs.Bools.{none-some, and-left, and-right, or-left, or-right}
-use Rattle.numbers.proofs.Prefixes.{prefix-splits, two-bytes}
+use Rattle.numbers.proofs.Prefixes.{prefix-splits, prefix-joins}
 use Rattle.numbers.proofs.Places.{index-within, before-length}
 use Rattle.numbers.proofs.Parts.{partSpan, part-text}
 use Rattle.numbers.proofs.Values.{digit-more, digits-start, digits-all, digits-end}
@@ -170,9 +171,9 @@ decimal-number s at v next m =
     let plain = decimal-plain (before (byte ",") (drop at s)) (digits-all 10 _ _ v (m .value) .1) in
     short-at s at v next (run-within 10 s at v next m) (m .after) (plain .0 ∙ ap positiveOf (digits-larger 10 _ (2 ^ 63 - 1) _ v (omega arith) (m .value))) (plain .1)
 
--- the two bytes of `0x` at a place
-pub hex-bytes : (s : List ℕ) (at : ℕ) → at + 2 ≤ length s → startsWith (text "0x") (drop at s) ≡ eqb (getD s at 0) 48 && eqb (getD s (at + 1) 0) 120
-hex-bytes s at h = rw (two-bytes 48 120 (drop at s) (rw (length-drop at s) (omega arith)), getD-drop, getD-drop, add-zero) refl
+-- `0` at a place and `x` behind it
+pub hex-bytes : (s : List ℕ) (at : ℕ) → startsWith (text "0") (drop at s) ≡ true → startsWith (text "x") (drop (at + 1) s) ≡ true → startsWith (text "0x") (drop at s) ≡ true
+hex-bytes s at h x = prefix-joins 48 (text "x") (drop at s) h (rw (drop-drop 1 at s) x)
 
 -- `0x` at a place is the start of the operand there
 hex-part : (s : List ℕ) (at : ℕ) → startsWith (text "0x") (drop at s) ≡ true
@@ -194,11 +195,58 @@ hex-number s at v next h m =
 later : (s : List ℕ) (at first v next : ℕ) → operandAt s first ≡ operandAt s at → ShortMeans s first v next → ShortMeans s at v next
 later s at first v next e m = record { operand = m .operand; found = sym e ∙ m .found; reads = m .reads }
 
--- the code's two answers
+-- zeros at the start stand before the comma
+zeros-inside : (t : List ℕ) → leadingZeros t ≤ indexOf (byte ",") t
+unfolding leading indexOf
+zeros-inside [] = omega arith
+zeros-inside (x ∷ xs) = go (eqb x 48) refl (zeros-inside xs)
+  where
+    go : (z : Bool) → eqb x 48 ≡ z → leadingZeros xs ≤ indexOf (byte ",") xs → cond z (suc (leadingZeros xs)) 0 ≤ cond (eqb x (byte ",")) 0 (suc (indexOf (byte ",") xs))
+    go true e h = rw (eqb-true x 48 e) (omega arith)
+    go false e h = omega arith
+
+-- a zero before a digit run that has a digit changes nothing
+zero-before : (base limit : ℕ) (xs : List ℕ) → 0 < base → (length xs ≡ 0 → ⊥) → digitsOf base limit xs ≡ digitsOf base limit (48 ∷ xs)
+unfolding digitsOf
+zero-before base limit xs b h =
+    let none : 0 * base + 0 ≡ 0 = omega arith in
+    sym (digits-start base limit xs h) ∙ rw none at (digit-more base limit 0 48 xs 0 refl b)
+
+-- zeros up to the last of them may be passed
+pub zeros-pass : (base limit n : ℕ) (t : List ℕ) → 0 < base → n ≤ leadingZeros t - 1
+    → (n + indexOf (byte ",") (drop n t) ≡ indexOf (byte ",") t) × (digitsOf base limit (before (byte ",") (drop n t)) ≡ digitsOf base limit (before (byte ",") t))
+unfolding leading before indexOf
+zeros-pass base limit zero t b h = (omega arith, refl)
+zeros-pass base limit (suc n) [] b h = absurd (omega arith)
+zeros-pass base limit (suc n) (x ∷ xs) b h = go (eqb x 48) refl h (zeros-pass base limit n xs b)
+  where
+    go : (z : Bool) → eqb x 48 ≡ z → suc n ≤ cond z (suc (leadingZeros xs)) 0 - 1
+        → (n ≤ leadingZeros xs - 1 → (n + indexOf (byte ",") (drop n xs) ≡ indexOf (byte ",") xs) × (digitsOf base limit (before (byte ",") (drop n xs)) ≡ digitsOf base limit (before (byte ",") xs)))
+        → (suc n + indexOf (byte ",") (drop n xs) ≡ indexOf (byte ",") (x ∷ xs)) × (digitsOf base limit (before (byte ",") (drop n xs)) ≡ digitsOf base limit (before (byte ",") (x ∷ xs)))
+    go false e k ih = absurd (omega arith)
+    go true e k ih =
+        let p = ih (omega arith) in
+        rw (eqb-true x 48 e) (
+          omega (arith, p .0),
+          p .1 ∙ zero-before base limit (before (byte ",") xs) b (λ l. omega (arith, before-length (byte ",") xs, zeros-inside xs)),
+        )
+
+-- so are they before the digits up to the comma
+passed-run : (base : ℕ) (s : List ℕ) (first from : ℕ) → 0 < base → from ≡ first + passedZeros (drop first s) → (r : Short) → DigitsOf base s from r → DigitsOf base s first r
+passed-run base s first from b e No m = tt
+passed-run base s first from b e (Is v next) m =
+    let pass = zeros-pass base (2 ^ 32 - 1) (passedZeros (drop first s)) (drop first s) b (omega arith) in
+    let there : drop (passedZeros (drop first s)) (drop first s) ≡ drop from s = rw (drop-drop (passedZeros (drop first s)) first s, e) refl in
+    record { value = sym (rw there at (pass .1)) ∙ m .value; after = omega (arith, m .after, e, rw there at (pass .0)) }
+
+-- the code's answers
 module _ (s : List ℕ) (at first : ℕ) (e : operandAt s first ≡ operandAt s at) where
   pub decimal-short : (r : Short) → DigitsOf 10 s first r → ShortOf s at r
   decimal-short (Is v next) m = later s at first v next e (decimal-number s first v next m)
   decimal-short No m = tt
+
+  pub zeros-short : (from : ℕ) → from ≡ first + passedZeros (drop first s) → (r : Short) → DigitsOf 10 s from r → ShortOf s at r
+  zeros-short from p r m = decimal-short r (passed-run 10 s first from (omega arith) p r m)
 
   pub hex-short : startsWith (text "0x") (drop first s) ≡ true → (r : Short) → DigitsOf 16 s (first + 2) r → ShortOf s at r
   hex-short h (Is v next) m = later s at first v next e (hex-number s first v next h m)

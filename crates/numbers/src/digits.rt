@@ -1,9 +1,11 @@
 // Digits in base 2, 10 and 16, with a limit.
 ghost use mathlib.Core.Path.{_≡_};
-ghost use Prim.Native.Nat.{_/_, _≤_};
-ghost use lib.ListN.{length};
+ghost use Prim.Native.Nat.{_+_, _/_, _≤_};
+ghost use lib.Dec.{leb};
+ghost use lib.ListN.{length, drop};
 ghost use Rattle.numbers.specs.Numbers.{digitOf, digitsFrom, digitsOf};
 ghost use Rattle.numbers.specs.code.Meanings.{baseOf, digitsValue};
+ghost use Rattle.numbers.specs.code.Starts.{leadingZeros, passedZeros};
 
 pub enum Radix {
     Binary,
@@ -50,6 +52,41 @@ pub fn digit(b: u8) -> u64
         b'a'..=b'f' => (b - b'a' + 10) as u64,
         _ => 16,
     }
+}
+
+// Are all four bytes from a place on zeros?
+fn zeros_in_four(s: &[u8], at: usize) -> bool
+    requires { ⌜ at + 4 ≤ length (now s) ⌝ }
+    ensures { λ r. ⌜ r ≡ leb 4 (leadingZeros (drop at (now (s .entry)))) ⌝ }
+{
+    ((s[at] == b'0') & (s[at + 1] == b'0')) & ((s[at + 2] == b'0') & (s[at + 3] == b'0'))
+}
+
+// Are all sixteen? No branch stands between the comparisons, as in `in_sixteen`.
+fn zeros_in_sixteen(s: &[u8], at: usize) -> bool
+    requires { ⌜ at + 16 ≤ length (now s) ⌝ }
+    ensures { λ r. ⌜ r ≡ leb 16 (leadingZeros (drop at (now (s .entry)))) ⌝ }
+{
+    (zeros_in_four(s, at) & zeros_in_four(s, at + 4))
+        & (zeros_in_four(s, at + 8) & zeros_in_four(s, at + 12))
+}
+
+// The place after zeros that stand at a place and change no value. Of each block of sixteen the last stays, so that where
+// digits stood digits are left.
+pub fn after_zeros(s: &[u8], at: usize) -> usize
+    ensures { λ r. ⌜ r ≡ at + passedZeros (drop at (now (s .entry))) ⌝ }
+{
+    let mut i = at;
+    while i < s.len() {
+        if s.len() - i < 16 {
+            return i;
+        }
+        if !zeros_in_sixteen(s, i) {
+            return i;
+        }
+        i += 15;
+    }
+    i
 }
 
 // The value of at most 15 digits, which 64 bits hold in each base: the limit is compared once, at the end.
