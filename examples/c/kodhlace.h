@@ -81,8 +81,8 @@ enum kodhlace_count {
 #define KODHLACE_FULL_EQUATES (KODHLACE_EQUATE_LIMIT * KODHLACE_EQUATE_SIZE)
 #define KODHLACE_FULL_ITEMS (KODHLACE_ITEM_LIMIT * KODHLACE_ITEM_SIZE)
 
-/* The call takes about 100,000 bytes of stack, hardly more for a full layout than for an empty one. */
-#define KODHLACE_STACK 131072u
+/* The call takes about 35,000 bytes of stack, hardly more for a full layout than for an empty one. */
+#define KODHLACE_STACK 65536u
 
 /* Lays out a text at a base. Returns 0: accepted; else document 01's number of the refusal.
  *

@@ -1,13 +1,12 @@
 -- Expansions: a pseudo's operands one after the other, and what follows from the answers that they are read by.
-use Prim.Native.Nat.{ℕ, _-_, _≤_}
+use Prim.Native.Nat.{ℕ, _-_}
 use native.Mathlib.Omega.{arith}
 use mathlib.Core.Path.{_≡_, refl, sym, ap, _∙_}
-use mathlib.Core.List.{List, [], _∷_, _++_, map}
+use mathlib.Core.List.{List, [], _∷_, map}
 use mathlib.Core.Bool.{Bool, true, false}
 use mathlib.Core.Option.{Option}
 use lib.IntN.{ℤ}
-use lib.ListN.{length, take, drop, length-append, length-drop}
-use lib.Seq.{take-at}
+use lib.ListN.{length, take, drop}
 use Rattle.numbers.specs.declared.text.Span.{Span}
 use Rattle.numbers.specs.declared.operands.Operand.the-variants.{At, End}
 use Rattle.numbers.specs.declared.ints.Imm.{Imm}
@@ -40,7 +39,6 @@ use Rattle.layout.specs.Pseudos.{pseudoOperands}
 use Rattle.layout.specs.Expansions.{Expanded, onRegister, onLabel, onNumber, expansion}
 use Rattle.layout.specs.code.Placed.{addressOf}
 use Rattle.layout.specs.code.Expands.{spacedOperands, onlyThen, loadThen, targetThen, immThen}
-use Rattle.layout.proofs.SpanLaws.{spanned-size}
 
 -- ---- operands
 
@@ -58,24 +56,9 @@ module _ (t : List ℕ) where
   pub spaced-next : (at : ℕ) (p : Span) (next : ℕ) → itemOperandAt t at ≡ At p next → spacedFrom t at ≡ oneSpaced (spanned t p) ∷ spacedFrom t next
   spaced-next at p next e = rw (item-step t at p next e) refl
 
--- an operand is no longer than the text that it stands in
-pub operand-short : (t b : List ℕ) (p : Span) (n : ℕ) → b ≡ spanned t p → length t ≤ n → length b ≤ n
-operand-short t b p n e h = omega (arith, ap length e ∙ spanned-size t p)
-
 -- an operand read as a register where it stands
 pub register-read : (s b : List ℕ) (r : Reg) → registerNumber r ≡ registerOf b → b ≡ s → registerOf (oneSpaced s) ≡ registerNumber r
 register-read s b r e f = register-spaced s ∙ ap registerOf (sym f) ∙ sym e
-
--- an operand that is written at the start of what is lent, read back
-module _ (s d d′ : List ℕ) (n : ℕ) (h : (n ≡ length s) × (d′ ≡ s ++ drop n d)) where
-  pub written-within : n ≤ length d′
-  written-within = omega (arith, h .0, ap length (h .1) ∙ length-append s (drop n d))
-
-  pub written-back : take n d′ ≡ s
-  written-back = rw (h .1) (take-at s (drop n d) n (sym (h .0)))
-
-  pub written-counted : n ≡ length (take n d′)
-  written-counted = h .0 ∙ sym (ap length written-back)
 
 -- an operand without white space stands as it is
 pub unspaced : (s : List ℕ) → countBefore isSpace s ≡ length s → oneSpaced s ≡ s
@@ -92,10 +75,6 @@ unspaced (x ∷ xs) e = go (isSpace x) refl (unspaced xs)
 -- what is cut out after its first word
 pub after-word : (s : List ℕ) (k : ℕ) → k ≡ countBefore isSpace s → take (length s - k) (drop k s) ≡ drop (countBefore isSpace s) s
 after-word s k e = tail s k ∙ ap (λ (n : ℕ). drop n s) e
-
--- that is no longer than the source
-pub after-short : (t s : List ℕ) (n : ℕ) → t ≡ drop (countBefore isSpace s) s → length s ≤ n → length t ≤ n
-after-short t s n e h = omega (arith, ap length e ∙ length-drop (countBefore isSpace s) s)
 
 -- the expansion of the operands in that is the source's
 pub of-source : (const : List ℕ → Option ℤ) (label : List ℕ → Option ℕ) {p q : Pseudo} {t : List ℕ} (s : List ℕ) {x : Expanded} → q ≡ p

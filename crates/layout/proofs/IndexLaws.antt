@@ -69,7 +69,7 @@ module _ (s : List ℕ) (h i : ℕ) where
 -- ---- a search in order
 
 -- the first of the names that is n
-lookup-at : (ns : List (List ℕ)) (n : List ℕ) (j k : ℕ) → k < length ns → same (nameAt ns k) n ≡ true
+pub lookup-at : (ns : List (List ℕ)) (n : List ℕ) (j k : ℕ) → k < length ns → same (nameAt ns k) n ≡ true
     → ((i : ℕ) → i < k → same (nameAt ns i) n ≡ false) → lookupIn n j ns ≡ some (j + k)
 unfolding lookupIn
 lookup-at [] n j k h e before = absurd (omega arith)
@@ -78,7 +78,7 @@ lookup-at (y ∷ ys) n j (suc k) h e before =
     let sum : suc j + k ≡ j + suc k = omega arith in
     rw (lookupIn, before 0 (omega arith), ← sum) (lookup-at ys n (suc j) k (omega arith) e (λ i l. before (suc i) (omega arith)))
 
-lookup-none : (ns : List (List ℕ)) (n : List ℕ) (j : ℕ) → ((i : ℕ) → i < length ns → same (nameAt ns i) n ≡ false) → lookupIn n j ns ≡ none
+pub lookup-none : (ns : List (List ℕ)) (n : List ℕ) (j : ℕ) → ((i : ℕ) → i < length ns → same (nameAt ns i) n ≡ false) → lookupIn n j ns ≡ none
 unfolding lookupIn
 lookup-none [] n j all = refl
 lookup-none (y ∷ ys) n j all = rw (lookupIn, all 0 (omega arith)) (lookup-none ys n (suc j) (λ i l. all (suc i) (omega arith)))

@@ -195,6 +195,29 @@ pending-alone k n m h = by (same (knownName k) n) refl (k .found) refl m h
     by true q none e m r = rw (constant, q) (ap (λ (o : Option Found). orElse (foundValue o) none) e)
     by true q (some f) e m r = absurd (false≢true (sym r ∙ rw (ne-eqb (f .round) 0 (λ z. omega (arith, z, m .from))) refl))
 
+-- searched in order: from here on the name's value is the whole list's
+module _ {t b ix : List ℕ} {count : ℕ} {ks : List Known} (s : EquateTable t b ix count ks) (n : List ℕ) (j : ℕ) (h : j < length ks) where
+  first-of : constant (drop j ks) n ≡ orElse (constant (knownAt ks j ∷ []) n) (constant (drop (j + 1) ks) n)
+  first-of =
+      ap (λ (l : List Known). constant l n) (drop-cons ks j noKnown h)
+      ∙ ap (λ (i : ℕ). constant (knownAt ks j ∷ drop i ks) n) (sym (add-one j))
+      ∙ constant-append (knownAt ks j ∷ []) (drop (j + 1) ks) n
+
+  fits-found : MaybeFits (knownAt ks j .found)
+  fits-found = each-at (KnownFits t) ks noKnown j (s .rows .fits) h .found
+
+  pub order-hit : isFound (knownAt ks j) n ≡ true → some (equateRecordAt b j .value) ≡ constant (drop j ks) n
+  order-hit e =
+      ap some (value-back (s .rows) j h)
+      ∙ sym (first-of ∙ ap (λ (o : Option ℤ). orElse o (constant (drop (j + 1) ks) n)) (found-alone (knownAt ks j) n fits-found e))
+
+  pub order-miss : isFound (knownAt ks j) n ≡ false → constant (drop (j + 1) ks) n ≡ constant (drop j ks) n
+  order-miss e = sym (first-of ∙ ap (λ (o : Option ℤ). orElse o (constant (drop (j + 1) ks) n)) (pending-alone (knownAt ks j) n fits-found e))
+
+pub order-end : (ks : List Known) (n : List ℕ) (j : ℕ) → length ks ≤ j → none ≡ constant (drop j ks) n
+unfolding constant
+order-end ks n j h = sym (ap (λ (l : List Known). constant l n) (drop-of-length-le ks {i = j} h))
+
 -- the value in the record before an entry
 abbrev pub entryValue : List Known → ℕ → Option ℤ
 entryValue ks zero = none

@@ -2,10 +2,15 @@
 use Prim.Native.Nat.{ℕ, zero, suc, _+_, _-_, _*_, _≤_, _<_}
 use native.Mathlib.Nat.{zero-add, add-zero}
 use native.Mathlib.Omega.{arith}
-use mathlib.Core.Path.{_≡_, refl, ap, ap₂, _∙_}
+use mathlib.Core.Path.{_≡_, refl, sym, ap, ap₂, _∙_}
 use mathlib.Core.List.{List, [], _∷_, map}
+use mathlib.Core.Bool.{Bool, true, false}
+use mathlib.Core.Option.{none, some}
 use lib.ListN.{length, drop, getD, replicate, length-append, drop-of-length-le}
 use lib.Seq.{drop-cons}
+use lib.Dec.{eqb}
+use borrow.Author.Tests.{eqb-true, eqb-false}
+use Rattle.numbers.specs.Text.{same}
 use Rattle.numbers.specs.code.Spans.{spanned}
 use Rattle.layout.specs.declared.records.LabelRecord.{LabelRecord}
 use Rattle.layout.specs.Bytes.{le, together}
@@ -15,9 +20,10 @@ use Rattle.layout.specs.Addresses.{LabelAt}
 use Rattle.layout.specs.Records.{fieldBytes, labelRecord, labelRecordAt}
 use Rattle.layout.specs.Layouts.{labelRow}
 use Rattle.layout.specs.code.Index.{nameAt, Indexed, Distinct}
-use Rattle.layout.specs.code.Tables.{labelNameAt, labelNames, LabelsIndexed}
+use Rattle.layout.specs.code.Tables.{labelNameAt, labelNames, lookupIn, LabelsIndexed}
 use Rattle.layout.specs.code.Orders.{LabelAtFits, LabelTable}
 use Rattle.layout.proofs.Each.{each-at}
+use Rattle.layout.proofs.IndexLaws.{lookup-at, lookup-none}
 use Rattle.layout.proofs.TableLaws.{length-records, read-row}
 
 -- ---- the names in so many records
@@ -37,6 +43,30 @@ names-from-here t b j (suc n) (suc i) h =
 
 pub name-listed : (t b : List ℕ) (n i : ℕ) → i < n → nameAt (labelNames t b 0 n) i ≡ labelNameAt t b i
 name-listed t b n i h = names-from-here t b 0 n i h ∙ ap (labelNameAt t b) (zero-add i)
+
+-- searched in order: the first record of a name, or none
+module _ (t b n : List ℕ) (count : ℕ) where
+  pub found-in-order : (k : ℕ) → k < count → same (labelNameAt t b k) n ≡ true → ((i : ℕ) → i < k → same (labelNameAt t b i) n ≡ false)
+      → some k ≡ lookupIn n 0 (labelNames t b 0 count)
+  found-in-order k h e before =
+      sym (lookup-at (labelNames t b 0 count) n 0 k (omega (arith, names-size t b 0 count)) (rw (name-listed t b count k h) e)
+      (λ i l. rw (name-listed t b count i (omega arith)) (before i l))
+      ∙ ap some (zero-add k))
+
+  -- the records up to here have other names, and so has this one
+  pub others-more : (k : ℕ) → ((i : ℕ) → i < k → same (labelNameAt t b i) n ≡ false) → same (labelNameAt t b k) n ≡ false
+      → (i : ℕ) → i < k + 1 → same (labelNameAt t b i) n ≡ false
+  others-more k before e i h = by (eqb i k) refl
+    where
+      by : (c : Bool) → eqb i k ≡ c → same (labelNameAt t b i) n ≡ false
+      by true q = ap (λ (j : ℕ). same (labelNameAt t b j) n) (eqb-true i k q) ∙ e
+      by false q = before i (omega (arith, eqb-false i k q))
+
+  pub none-in-order : ((i : ℕ) → i < count → same (labelNameAt t b i) n ≡ false) → none ≡ lookupIn n 0 (labelNames t b 0 count)
+  none-in-order all =
+      sym (lookup-none (labelNames t b 0 count) n 0 (λ i l.
+      let h : i < count = omega (arith, names-size t b 0 count) in
+      rw (name-listed t b count i h) (all i h)))
 
 -- ---- a table's records and names are its labels'
 

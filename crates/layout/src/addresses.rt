@@ -1,12 +1,14 @@
 // Addresses, once the lines are read: where the sections start, and the labels' records with their addresses.
 use crate::labels::Lookup;
 use crate::labels::find_label;
+use crate::labels::find_spaced;
 use crate::records::LabelRecord;
 use crate::records::get_label;
 use crate::records::put_label;
 ghost use mathlib.Core.Path.{_≡_};
 ghost use Prim.Native.Nat.{_≤_};
 ghost use lib.ListN.{length};
+ghost use Rattle.numbers.specs.Text.{oneSpaced};
 ghost use Rattle.layout.specs.Limits.{baseLimit, dataLimit};
 ghost use Rattle.layout.specs.State.{State};
 ghost use Rattle.layout.specs.Stage.{isLabel};
@@ -99,4 +101,22 @@ pub fn is_label(text: &[u8], labels: &[u8], index: &[u16], count: usize, name: &
         Lookup::At(_) => true,
         Lookup::Nothing => false,
     }
+}
+
+// The same by an operand, whose white-space runs are made one space. The contract alone names the index.
+pub fn spaced_address(
+    text: &[u8],
+    labels: &[u8],
+    index: &[u16],
+    count: usize,
+    operand: &[u8],
+) -> Address
+    requires { ⌜ LabelsIndexed (now text) (now labels) (now index) count ⌝ }
+    ensures { λ r. ⌜ WherePlaced text labels index count
+        (λ base σ. addressOf r ≡ labelAddress base σ (oneSpaced (now (operand .entry)))) ⌝ }
+{
+    let Lookup::At(k) = find_spaced(text, labels, count, operand) else {
+        return Address::Nothing;
+    };
+    Address::At(get_label(labels, k).address)
 }

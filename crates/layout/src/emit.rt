@@ -24,7 +24,6 @@ ghost use Rattle.numbers.specs.code.Spans.{spanned};
 ghost use Rattle.encoder.specs.Encoding.{encoding};
 ghost use Rattle.encoder.specs.code.Meanings.{answerOf};
 ghost use Rattle.layout.specs.declared.pseudo.Pseudo as code;
-ghost use Rattle.layout.specs.Limits.{textLimit};
 ghost use Rattle.layout.specs.Pseudos.{itemKind, pseudoWords, reservedWords};
 ghost use Rattle.layout.specs.Layouts.{encoded};
 ghost use Rattle.layout.specs.code.Steps.{Some};
@@ -112,7 +111,7 @@ fn emit_pseudo(
     dst: &mut [u32],
 ) -> Count
     requires { ⌜ NamesReady text labels «label_index» «label_count» equates «equate_index» «equate_count»
-        × (length (now s) ≤ textLimit) × (pseudoWords «pseudo» (now s) ≤ length (now dst)) ⌝ }
+        × (pseudoWords «pseudo» (now s) ≤ length (now dst)) ⌝ }
     ensures { λ r. ⌜ NamesKnown text labels «label_index» «label_count» equates «equate_index» «equate_count»
         (λ names. Puts dst r (emissionIn names (some «pseudo») (now (s .entry)))) ⌝ }
 {

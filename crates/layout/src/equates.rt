@@ -13,6 +13,7 @@ use crate::state::Count;
 use crate::state::Place;
 use numbers::text::Span;
 use numbers::text::same_bytes;
+use numbers::text::same_one_spaced;
 use numbers::text::span_bytes;
 ghost use mathlib.Core.Path.{_≡_};
 ghost use mathlib.Core.Bool.{_&&_, not};
@@ -20,7 +21,7 @@ ghost use mathlib.Core.List.{List, []};
 ghost use Prim.Native.Nat.{_+_, _*_, _≤_, _<_};
 ghost use lib.ListN.{length};
 ghost use lib.Dec.{eqb};
-ghost use Rattle.numbers.specs.Text.{same};
+ghost use Rattle.numbers.specs.Text.{same, oneSpaced};
 ghost use Rattle.layout.specs.Limits.{equateSize, equateLimit};
 ghost use Rattle.layout.specs.Rounds.{Known, constant};
 ghost use Rattle.layout.specs.code.Steps.{Some};
@@ -135,4 +136,39 @@ pub fn constant(text: &[u8], equates: &[u8], index: &[u16], count: usize, name: 
         return Value::Nothing;
     }
     Value::Is(get_equate(equates, found - 1).value)
+}
+
+// Has the kth equate an operand's name, its white-space runs made one space, and a value?
+fn is_spaced_found(text: &[u8], equates: &[u8], k: usize, operand: &[u8]) -> bool
+    requires { ⌜ k * equateSize + equateSize ≤ length (now equates) ⌝ }
+    ensures { λ r. ⌜ r ≡ not (eqb (equateRecordAt (now (equates .entry)) k .round) 0)
+        && same (equateNameAt (now (text .entry)) (now (equates .entry)) k) (oneSpaced (now (operand .entry))) ⌝ }
+{
+    if get_equate(equates, k).round == 0 {
+        return false;
+    }
+    same_one_spaced(operand, equate_name(text, equates, k))
+}
+
+// What `constant` answers of an operand's name, its white-space runs made one space. The equates are searched in order, as labels are (`find_spaced`). The
+// contract alone names the index.
+pub fn spaced_constant(
+    text: &[u8],
+    equates: &[u8],
+    index: &[u16],
+    count: usize,
+    operand: &[u8],
+) -> Value
+    requires { ⌜ Some (EquateTable (now text) (now equates) (now index) count) ⌝ }
+    ensures { λ r. ⌜ ((ks : List Known) → EquateTable (now (text .entry)) (now (equates .entry)) (now (index .entry)) count ks
+        → valueOf r ≡ constant ks (oneSpaced (now (operand .entry)))) ⌝ }
+{
+    let mut k = 0;
+    while k < count {
+        if is_spaced_found(text, equates, k, operand) {
+            return Value::Is(get_equate(equates, k).value);
+        }
+        k += 1;
+    }
+    Value::Nothing
 }

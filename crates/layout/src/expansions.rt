@@ -1,9 +1,10 @@
 // Pseudo-instructions as instructions: each of the nine reads its operands and expands, or is refused by 18, 19 or 20.
 use crate::addresses::Address;
 use crate::addresses::label_address;
+use crate::addresses::spaced_address;
 use crate::equates::Value;
 use crate::equates::constant;
-use crate::limits::TEXT_LIMIT;
+use crate::equates::spaced_constant;
 use crate::pieces::word_len;
 use crate::pseudo::Pseudo;
 use crate::state::Count;
@@ -23,7 +24,6 @@ use numbers::registers::Register;
 use numbers::registers::parse_reg;
 use numbers::text::Span;
 use numbers::text::first_is;
-use numbers::text::put_one_spaced;
 use numbers::text::span_bytes;
 ghost use mathlib.Core.Path.{_≡_};
 ghost use mathlib.Core.List.{List};
@@ -40,7 +40,6 @@ ghost use Rattle.numbers.specs.code.Meanings.{registerNumber};
 ghost use Rattle.encoder.specs.declared.instruction.Instruction.the-variants.{Addi, Lui, Lbu, Lw, Sw, Beq, Jal, Sub};
 ghost use Rattle.encoder.specs.Split.{loadPair};
 ghost use Rattle.layout.specs.declared.pseudo.Pseudo.the-variants as pseudo;
-ghost use Rattle.layout.specs.Limits.{textLimit};
 ghost use Rattle.layout.specs.Bytes.{countBefore};
 ghost use Rattle.layout.specs.Addresses.{labelAddress};
 ghost use Rattle.layout.specs.Rounds.{constant};
@@ -49,18 +48,12 @@ ghost use Rattle.layout.specs.Expansions.{pushes, pops, prints, randoms,
 ghost use Rattle.layout.specs.code.Steps.{Some};
 ghost use Rattle.layout.specs.code.Tables.{LabelsIndexed};
 ghost use Rattle.layout.specs.code.Placed.{WherePlaced, addressOf};
-ghost use Rattle.layout.specs.code.Names.{EquateTable, NamesReady, NamesKnown};
+ghost use Rattle.layout.specs.code.Names.{valueOf, EquateTable, NamesReady, NamesKnown};
 ghost use Rattle.layout.specs.code.Expands.{spacedOperands, onlyThen, twoThen, loadThen, targetThen, immThen, longest, ecallsOf, withSlot, withSlots, expandedOf};
 ghost use Rattle.layout.specs.code.Expands.{WhereKnown, ExpandsAlone, ExpandsByLabels, ExpandsByEquates, expansionIn};
 
 // The longest expansion, print_str's.
 pub const LONGEST: usize = 11;
-
-// The bytes of an operand's copy. A short one costs little to clear, so that many operands with white space stay cheap; the long one has room for any
-// operand and is rarely needed, since all of them stand in one text.
-const SHORT_COPY: usize = 1024;
-
-const LONG_COPY: usize = TEXT_LIMIT;
 
 // One instruction of an expansion.
 pub struct Slot {
@@ -182,24 +175,7 @@ fn load_operands(ops: &[u8]) -> Load
     Load::Into(rd, second)
 }
 
-// A label's address by a copy of an operand, whose white-space runs are one space.
-fn spaced_address(
-    text: &[u8],
-    labels: &[u8],
-    index: &[u16],
-    count: usize,
-    copy: &mut [u8],
-    operand: &[u8],
-) -> Address
-    requires { ⌜ LabelsIndexed (now text) (now labels) (now index) count × (length (now operand) ≤ length (now copy)) ⌝ }
-    ensures { λ r. ⌜ WherePlaced text labels index count
-        (λ base σ. addressOf r ≡ labelAddress base σ (oneSpaced (now (operand .entry)))) ⌝ }
-{
-    let n = put_one_spaced(copy, operand);
-    label_address(text, labels, index, count, &copy[..n])
-}
-
-// The same by the operand itself, where it has no white space, as most have none.
+// A label's address by an operand, whose white-space runs are one space. Most have no white space.
 fn operand_address(
     text: &[u8],
     labels: &[u8],
@@ -207,19 +183,14 @@ fn operand_address(
     count: usize,
     operand: &[u8],
 ) -> Address
-    requires { ⌜ LabelsIndexed (now text) (now labels) (now index) count × (length (now operand) ≤ textLimit) ⌝ }
+    requires { ⌜ LabelsIndexed (now text) (now labels) (now index) count ⌝ }
     ensures { λ r. ⌜ WherePlaced text labels index count
         (λ base σ. addressOf r ≡ labelAddress base σ (oneSpaced (now (operand .entry)))) ⌝ }
 {
     if word_len(operand) == operand.len() {
         return label_address(text, labels, index, count, operand);
     }
-    if operand.len() <= SHORT_COPY {
-        let mut copy = [0u8; SHORT_COPY];
-        return spaced_address(text, labels, index, count, &mut copy, operand);
-    }
-    let mut copy = [0u8; LONG_COPY];
-    spaced_address(text, labels, index, count, &mut copy, operand)
+    spaced_address(text, labels, index, count, operand)
 }
 
 // The address of the label that the only operand names, or the refusal's number.
@@ -229,7 +200,7 @@ enum Target {
 }
 
 fn label_operand(text: &[u8], labels: &[u8], index: &[u16], count: usize, ops: &[u8]) -> Target
-    requires { ⌜ LabelsIndexed (now text) (now labels) (now index) count × (length (now ops) ≤ textLimit) ⌝ }
+    requires { ⌜ LabelsIndexed (now text) (now labels) (now index) count ⌝ }
     ensures { λ r. ⌜ WherePlaced text labels index count (λ base σ. (f : ℕ → Expanded) → targetThen r f
         ≡ oneOperand (spacedOperands (now (ops .entry))) (λ a. noRegister (registerOf a) (onLabel (labelAddress base σ a) f))) ⌝ }
 {
@@ -243,16 +214,33 @@ fn label_operand(text: &[u8], labels: &[u8], index: &[u16], count: usize, ops: &
     Target::At(a)
 }
 
-// An equate's value by its name, where 32 signed bits hold it. What begins with a quote is no name.
-fn li_constant(text: &[u8], equates: &[u8], index: &[u16], count: usize, name: &[u8]) -> Imm
+// An equate's value by an operand, likewise.
+fn operand_constant(
+    text: &[u8],
+    equates: &[u8],
+    index: &[u16],
+    count: usize,
+    operand: &[u8],
+) -> Value
+    requires { ⌜ Some (EquateTable (now text) (now equates) (now index) count) ⌝ }
+    ensures { λ r. ⌜ WhereKnown text equates index count (λ ks. valueOf r ≡ constant ks (oneSpaced (now (operand .entry)))) ⌝ }
+{
+    if word_len(operand) == operand.len() {
+        return constant(text, equates, index, count, operand);
+    }
+    spaced_constant(text, equates, index, count, operand)
+}
+
+// The same where 32 signed bits hold it. What begins with a quote is no name.
+fn li_constant(text: &[u8], equates: &[u8], index: &[u16], count: usize, operand: &[u8]) -> Imm
     requires { ⌜ Some (EquateTable (now text) (now equates) (now index) count) ⌝ }
     ensures { λ r. ⌜ WhereKnown text equates index count
-        (λ ks. (f : ℤ → Expanded) → immThen r f ≡ onNumber none (now (name .entry)) (constant ks) f) ⌝ }
+        (λ ks. (f : ℤ → Expanded) → immThen r f ≡ onNumber none (oneSpaced (now (operand .entry))) (constant ks) f) ⌝ }
 {
-    if first_is(name, b'\'') {
+    if first_is(operand, b'\'') {
         return Imm::Invalid;
     }
-    let Value::Is(v) = constant(text, equates, index, count, name) else {
+    let Value::Is(v) = operand_constant(text, equates, index, count, operand) else {
         return Imm::Invalid;
     };
     if in_signed32(v) {
@@ -261,49 +249,15 @@ fn li_constant(text: &[u8], equates: &[u8], index: &[u16], count: usize, name: &
     Imm::Invalid
 }
 
-// The same by a copy of an operand, whose white-space runs are one space.
-fn spaced_constant(
-    text: &[u8],
-    equates: &[u8],
-    index: &[u16],
-    count: usize,
-    copy: &mut [u8],
-    operand: &[u8],
-) -> Imm
-    requires { ⌜ Some (EquateTable (now text) (now equates) (now index) count) × (length (now operand) ≤ length (now copy)) ⌝ }
-    ensures { λ r. ⌜ WhereKnown text equates index count
-        (λ ks. (f : ℤ → Expanded) → immThen r f ≡ onNumber none (oneSpaced (now (operand .entry))) (constant ks) f) ⌝ }
-{
-    let n = put_one_spaced(copy, operand);
-    li_constant(text, equates, index, count, &copy[..n])
-}
-
-// The same by the operand itself, where it has no white space.
-fn operand_constant(text: &[u8], equates: &[u8], index: &[u16], count: usize, operand: &[u8]) -> Imm
-    requires { ⌜ Some (EquateTable (now text) (now equates) (now index) count) × (length (now operand) ≤ textLimit) ⌝ }
-    ensures { λ r. ⌜ WhereKnown text equates index count
-        (λ ks. (f : ℤ → Expanded) → immThen r f ≡ onNumber none (oneSpaced (now (operand .entry))) (constant ks) f) ⌝ }
-{
-    if word_len(operand) == operand.len() {
-        return li_constant(text, equates, index, count, operand);
-    }
-    if operand.len() <= SHORT_COPY {
-        let mut copy = [0u8; SHORT_COPY];
-        return spaced_constant(text, equates, index, count, &mut copy, operand);
-    }
-    let mut copy = [0u8; LONG_COPY];
-    spaced_constant(text, equates, index, count, &mut copy, operand)
-}
-
 // What an li loads: a number, or else an equate's value.
 fn li_number(text: &[u8], equates: &[u8], index: &[u16], count: usize, operand: &[u8]) -> Imm
-    requires { ⌜ Some (EquateTable (now text) (now equates) (now index) count) × (length (now operand) ≤ textLimit) ⌝ }
+    requires { ⌜ Some (EquateTable (now text) (now equates) (now index) count) ⌝ }
     ensures { λ r. ⌜ WhereKnown text equates index count (λ ks. (f : ℤ → Expanded) → immThen r f
         ≡ onNumber (immOf (oneSpaced (now (operand .entry)))) (oneSpaced (now (operand .entry))) (constant ks) f) ⌝ }
 {
     match parse_imm_one_spaced(operand) {
         Imm::Value(v) => Imm::Value(v),
-        Imm::Invalid => operand_constant(text, equates, index, count, operand),
+        Imm::Invalid => li_constant(text, equates, index, count, operand),
     }
 }
 
@@ -401,7 +355,7 @@ fn load_number(rd: Register, v: i32) -> Expansion
 
 // li rd, imm
 fn parse_li(text: &[u8], equates: &[u8], index: &[u16], count: usize, ops: &[u8]) -> Expansion
-    requires { ⌜ Some (EquateTable (now text) (now equates) (now index) count) × (length (now ops) ≤ textLimit) ⌝ }
+    requires { ⌜ Some (EquateTable (now text) (now equates) (now index) count) ⌝ }
     ensures { λ r. ⌜ ExpandsByEquates text equates index count pseudo.Li ops r ⌝ }
 {
     let Load::Into(rd, operand) = load_operands(ops) else {
@@ -415,7 +369,7 @@ fn parse_li(text: &[u8], equates: &[u8], index: &[u16], count: usize, ops: &[u8]
 
 // la rd, label
 fn parse_la(text: &[u8], labels: &[u8], index: &[u16], count: usize, ops: &[u8]) -> Expansion
-    requires { ⌜ LabelsIndexed (now text) (now labels) (now index) count × (length (now ops) ≤ textLimit) ⌝ }
+    requires { ⌜ LabelsIndexed (now text) (now labels) (now index) count ⌝ }
     ensures { λ r. ⌜ ExpandsByLabels text labels index count pseudo.La ops r ⌝ }
 {
     let Load::Into(rd, operand) = load_operands(ops) else {
@@ -505,7 +459,7 @@ fn print_str(a: u32) -> Expansion
 }
 
 fn parse_print_str(text: &[u8], labels: &[u8], index: &[u16], count: usize, ops: &[u8]) -> Expansion
-    requires { ⌜ LabelsIndexed (now text) (now labels) (now index) count × (length (now ops) ≤ textLimit) ⌝ }
+    requires { ⌜ LabelsIndexed (now text) (now labels) (now index) count ⌝ }
     ensures { λ r. ⌜ ExpandsByLabels text labels index count pseudo.PrintStr ops r ⌝ }
 {
     match label_operand(text, labels, index, count, ops) {
@@ -527,7 +481,7 @@ fn read(a: u32) -> Expansion
 }
 
 fn parse_read(text: &[u8], labels: &[u8], index: &[u16], count: usize, ops: &[u8]) -> Expansion
-    requires { ⌜ LabelsIndexed (now text) (now labels) (now index) count × (length (now ops) ≤ textLimit) ⌝ }
+    requires { ⌜ LabelsIndexed (now text) (now labels) (now index) count ⌝ }
     ensures { λ r. ⌜ ExpandsByLabels text labels index count pseudo.Read ops r ⌝ }
 {
     match label_operand(text, labels, index, count, ops) {
@@ -546,7 +500,7 @@ fn read_byte(a: u32) -> Expansion
 }
 
 fn parse_read_byte(text: &[u8], labels: &[u8], index: &[u16], count: usize, ops: &[u8]) -> Expansion
-    requires { ⌜ LabelsIndexed (now text) (now labels) (now index) count × (length (now ops) ≤ textLimit) ⌝ }
+    requires { ⌜ LabelsIndexed (now text) (now labels) (now index) count ⌝ }
     ensures { λ r. ⌜ ExpandsByLabels text labels index count pseudo.ReadByte ops r ⌝ }
 {
     match label_operand(text, labels, index, count, ops) {
@@ -592,8 +546,7 @@ pub fn expand(
     pseudo: Pseudo,
     s: &[u8],
 ) -> Expansion
-    requires { ⌜ NamesReady text labels «label_index» «label_count» equates «equate_index» «equate_count»
-        × (length (now s) ≤ textLimit) ⌝ }
+    requires { ⌜ NamesReady text labels «label_index» «label_count» equates «equate_index» «equate_count» ⌝ }
     ensures { λ r. ⌜ NamesKnown text labels «label_index» «label_count» equates «equate_index» «equate_count»
         (λ names. expandedOf r ≡ expansionIn names «pseudo» (now (s .entry))) ⌝ }
 {

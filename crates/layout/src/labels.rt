@@ -11,11 +11,12 @@ use crate::state::Count;
 use crate::state::Place;
 use numbers::text::Span;
 use numbers::text::same_bytes;
+use numbers::text::same_one_spaced;
 use numbers::text::span_bytes;
 ghost use mathlib.Core.Path.{_≡_};
 ghost use Prim.Native.Nat.{_+_, _*_, _≤_};
 ghost use lib.ListN.{length};
-ghost use Rattle.numbers.specs.Text.{same};
+ghost use Rattle.numbers.specs.Text.{same, oneSpaced};
 ghost use Rattle.layout.specs.Limits.{labelSize};
 ghost use Rattle.layout.specs.Stage.{addLabel, labelStep};
 ghost use Rattle.layout.specs.code.Spans.{SpanWithin, LabelWithin, LineIn, pieceAt, labelPartAt};
@@ -30,17 +31,25 @@ pub enum Lookup {
     Nothing,
 }
 
+// The kth label's name.
+fn label_name<'a>(text: &'a [u8], labels: &[u8], k: usize) -> &'a [u8]
+    requires { ⌜ k * labelSize + labelSize ≤ length (now labels) ⌝ }
+    ensures { λ r. ⌜ now r ≡ labelNameAt (now (text .entry)) (now (labels .entry)) k ⌝ }
+{
+    let label = get_label(labels, k);
+    let name = Span {
+        start: label.start as usize,
+        len: label.len as usize,
+    };
+    span_bytes(text, name)
+}
+
 // Has the kth record this name?
 fn is_named(text: &[u8], labels: &[u8], k: usize, name: &[u8]) -> bool
     requires { ⌜ k * labelSize + labelSize ≤ length (now labels) ⌝ }
     ensures { λ r. ⌜ r ≡ same (labelNameAt (now (text .entry)) (now (labels .entry)) k) (now (name .entry)) ⌝ }
 {
-    let label = get_label(labels, k);
-    let place = Span {
-        start: label.start as usize,
-        len: label.len as usize,
-    };
-    same_bytes(span_bytes(text, place), name)
+    same_bytes(label_name(text, labels, k), name)
 }
 
 // The one of so many records that has this name, by the chain of the name's bucket. The contract alone names the count.
@@ -72,6 +81,22 @@ pub fn find_label(text: &[u8], labels: &[u8], index: &[u16], count: usize, name:
     ensures { λ r. ⌜ LooksUp (now (text .entry)) (now (labels .entry)) count (now (name .entry)) r ⌝ }
 {
     find_in(text, labels, index, count, name, bucket_of(name))
+}
+
+// The one of so many records whose name an operand is, its white-space runs made one space. Few operands have white space: the records are searched in
+// order, and nothing is copied.
+pub fn find_spaced(text: &[u8], labels: &[u8], count: usize, operand: &[u8]) -> Lookup
+    requires { ⌜ count * labelSize ≤ length (now labels) ⌝ }
+    ensures { λ r. ⌜ LooksUp (now (text .entry)) (now (labels .entry)) count (oneSpaced (now (operand .entry))) r ⌝ }
+{
+    let mut k = 0;
+    while k < count {
+        if same_one_spaced(operand, label_name(text, labels, k)) {
+            return Lookup::At(k);
+        }
+        k += 1;
+    }
+    Lookup::Nothing
 }
 
 // A label, with its place for its address.

@@ -60,8 +60,8 @@ const KINDS: &[Kind] = &[
     ("random", "2,048 `random`, of eight words each", Goal::Worst, random),
     ("print-str", "1,489 `print_str`, of eleven words each", Goal::Worst, print_str),
     ("la", "1,024 labels, 2,048 `la` of them", Goal::Worst, la_of_labels),
-    ("la-spaced", "2,048 `la` of a name with a tab for its space", Goal::Worst, la_spaced),
-    ("la-spaced-long", "`la` of a name of 1,200 bytes with a tab for its space", Goal::Worst, la_spaced_long),
+    ("la-spaced", "1,024 labels with a space, 2,048 `la` of the last by a tab", Goal::Worst, la_spaced),
+    ("la-spaced-long", "`la` of a label of 1,200 bytes with a space, by a tab", Goal::Worst, la_spaced_long),
     ("li-equates", "256 equates, 2,048 `li` of them", Goal::Worst, li_of_equates),
     ("decimal-bytes", "decimal bytes", Goal::Worst, decimal_bytes),
     ("hex-bytes", "hexadecimal bytes", Goal::Worst, hex_bytes),
@@ -249,9 +249,11 @@ fn la_of_labels() -> String {
     })
 }
 
-/// A pseudo's white space is made one space before its label is looked up.
+/// A pseudo's white space is made one space before its label is looked up: among all labels, one after the other.
 fn la_spaced() -> String {
-    "a b:\n".to_string() + &counted(ITEM_LIMIT, |_| "    la a0, a\tb\n".to_string())
+    let labels = counted(LABEL_LIMIT, |k| format!("a {k}:\n"));
+    let last = LABEL_LIMIT - 1;
+    labels + &counted(ITEM_LIMIT, |_| format!("    la a0, a\t{last}\n"))
 }
 
 fn la_spaced_long() -> String {

@@ -1,5 +1,4 @@
 -- `emit::emit_line`: one word for an ordinary line, a pseudo's for the others.
-use Rattle.layout.proofs.ExpansionLaws.{operand-short}
 use borrow.Author.Needs.{needs}
 use Rattle.layout.proofs.emit.emit_line.Statement.{statement}
 use Rattle.layout.proofs.emit.emit_line.Tie as tie
@@ -14,7 +13,7 @@ emit-pseudo-requires : tie.Need-emit-pseudo-requires
 emit-pseudo-requires c κs =
     let pre = c .before .before .before .before .before .before .before .before .before .before .before .pre in
     let span = c .before .span-bytes in
-    (pre .0, operand-short _ _ _ _ (span .ensures) (pre .0 .stands .labels .table .text), rw (span .ensures) (rw (c .before .before .before .kind .given .1) at (pre .1)))
+    (pre .0, rw (span .ensures) (rw (c .before .before .before .kind .given .1) at (pre .1)))
 
 returns : tie.Need-returns
 returns c = λ names stand. rw (c .before .before .before .before .enum-told .given .1) (c .before .before .put-ordinary .ensures)

@@ -11,7 +11,7 @@ put-expansion-requires c κs =
     let e = c .before .expand in
     let pre = c .before .before .before .before .before .before .before .before .before .pre in
     let names = pre .0 .it in
-    expansion-room (constant (names .known)) (labelAddress (names .base) (names .state)) _ _ (e .result .slots) (e .result .count) _ (e .ensures names (pre .0 .stands)) (pre .2)
+    expansion-room (constant (names .known)) (labelAddress (names .base) (names .state)) _ _ (e .result .slots) (e .result .count) _ (e .ensures names (pre .0 .stands)) (pre .1)
 
 returns : tie.Need-returns
 returns c =

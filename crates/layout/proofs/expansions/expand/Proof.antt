@@ -1,13 +1,10 @@
 -- `expansions::expand`: each pseudo by its own function, over the names that are lent.
-use Prim.Native.Nat.{_≤_}
-use lib.ListN.{length}
 use denote.Ref.{now}
-use Rattle.layout.specs.Limits.{textLimit}
 use Rattle.layout.specs.code.Steps.{Some}
 use Rattle.layout.specs.code.Tables.{LabelsIndexed}
 use Rattle.layout.specs.code.Names.{EquateTable}
 use Rattle.layout.proofs.AddressLaws.{placed-indexed}
-use Rattle.layout.proofs.ExpansionLaws.{of-source, after-short}
+use Rattle.layout.proofs.ExpansionLaws.{of-source}
 use borrow.Author.Needs.{needs}
 use Rattle.layout.proofs.expansions.expand.Statement.{statement}
 use Rattle.layout.proofs.expansions.expand.Tie as tie
@@ -17,29 +14,26 @@ module _ (c : tie.After-operands-text) where
   abbrev start : tie.Start
   start = c .before .before .before .before .before .before .before
 
-  short : length (now (c .operands-text .result)) ≤ textLimit
-  short = after-short _ (now (start .args .s)) _ (c .operands-text .ensures) (start .pre .1)
-
   indexed : LabelsIndexed (now (start .args .text)) (now (start .args .labels)) (now (start .args .label-index)) (start .args .label-count)
-  indexed = placed-indexed (start .pre .0 .stands .labels)
+  indexed = placed-indexed (start .pre .stands .labels)
 
   known : Some (EquateTable (now (start .args .text)) (now (start .args .equates)) (now (start .args .equate-index)) (start .args .equate-count))
-  known = record { it = start .pre .0 .it .known; stands = start .pre .0 .stands .equates }
+  known = record { it = start .pre .it .known; stands = start .pre .stands .equates }
 
 parse-li-requires : tie.Need-parse-li-requires
-parse-li-requires c κs = let at = c .before .before in (known at, short at)
+parse-li-requires c κs = known (c .before .before)
 
 parse-la-requires : tie.Need-parse-la-requires
-parse-la-requires c κs = let at = c .before .before in (indexed at, short at)
+parse-la-requires c κs = indexed (c .before .before)
 
 parse-print-str-requires : tie.Need-parse-print-str-requires
-parse-print-str-requires c κs = let at = c .before .before in (indexed at, short at)
+parse-print-str-requires c κs = indexed (c .before .before)
 
 parse-read-requires : tie.Need-parse-read-requires
-parse-read-requires c κs = let at = c .before .before in (indexed at, short at)
+parse-read-requires c κs = indexed (c .before .before)
 
 parse-read-byte-requires : tie.Need-parse-read-byte-requires
-parse-read-byte-requires c κs = let at = c .before .before in (indexed at, short at)
+parse-read-byte-requires c κs = indexed (c .before .before)
 
 returns : tie.Need-returns
 returns c =

@@ -1,18 +1,13 @@
 -- `expansions::label_operand`: the only operand is no register, and names a label.
 use mathlib.Core.Path.{_∙_}
 use Rattle.layout.specs.Addresses.{labelAddress}
-use Rattle.layout.proofs.ExpansionLaws.{only-wrong, only-at, label-none, label-some, operand-short}
+use Rattle.layout.proofs.ExpansionLaws.{only-wrong, only-at, label-none, label-some}
 use borrow.Author.Needs.{needs}
 use Rattle.layout.proofs.expansions.label_operand.Statement.{statement}
 use Rattle.layout.proofs.expansions.label_operand.Tie as tie
 
 returns : tie.Need-returns
 returns c = λ base σ placed f. only-wrong _ _ _ _ (c .before .before .only-name .ensures _) (c .enum-told .given .1)
-
-operand-address-requires : tie.Need-operand-address-requires
-operand-address-requires c κs =
-    let pre = c .before .before .before .before .before .before .before .before .before .pre in
-    (pre .0, operand-short _ _ _ _ (c .span-bytes .ensures) (pre .1))
 
 returns-2 : tie.Need-returns-2
 returns-2 c =
@@ -37,7 +32,7 @@ label-operand-spec =
     (λ c. search needs)  -- enum-told
     returns
     (λ c κs. search needs)  -- span-bytes-requires
-    operand-address-requires
+    (λ c κs. search needs)  -- operand-address-requires
     (λ c. search needs)  -- enum-known-a
     (λ c. search needs)  -- enum-told-2
     returns-2

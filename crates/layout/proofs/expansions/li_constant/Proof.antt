@@ -7,20 +7,21 @@ use mir.Val.{SFits, toZ, ofZ}
 use mir.Facts.{toZ-ofZ}
 use Rattle.numbers.specs.Ints.{isSigned32}
 use Rattle.numbers.proofs.Integers.{signed32-fits}
+use Rattle.numbers.proofs.SpacedNumbers.{quote-spaced}
 use Rattle.layout.specs.code.Names.{valueOf}
 use borrow.Author.Needs.{needs}
 use Rattle.layout.proofs.expansions.li_constant.Statement.{statement}
 use Rattle.layout.proofs.expansions.li_constant.Tie as tie
 
 returns : tie.Need-returns
-returns c = λ ks table f. rw (sym (c .before .first-is .ensures) ∙ c .if1 .taken) refl
+returns c = λ ks table f. rw (quote-spaced _ ∙ sym (c .before .first-is .ensures) ∙ c .if1 .taken) refl
 
 returns-2 : tie.Need-returns-2
 returns-2 c =
     let named = c .before .before .before in
     λ ks table f. rw (
-      sym (named .before .first-is .ensures) ∙ named .if1 .left,
-      sym (c .before .before .constant .ensures ks table) ∙ ap valueOf (c .enum-told .given .1),
+      quote-spaced _ ∙ sym (named .before .first-is .ensures) ∙ named .if1 .left,
+      sym (c .before .before .operand-constant .ensures ks table) ∙ ap valueOf (c .enum-told .given .1),
     )
     refl
 
@@ -45,8 +46,8 @@ returns-3 c =
     λ ks table f. rw (
       read (c .before),
       toZ-ofZ (signed32-fits (v (c .before)) small),
-      sym (named .before .first-is .ensures) ∙ named .if1 .left,
-      sym (c .before .before .before .before .before .constant .ensures ks table) ∙ ap valueOf (c .before .before .before .v .given .1),
+      quote-spaced _ ∙ sym (named .before .first-is .ensures) ∙ named .if1 .left,
+      sym (c .before .before .before .before .before .operand-constant .ensures ks table) ∙ ap valueOf (c .before .before .before .v .given .1),
       small,
     )
     refl
@@ -55,8 +56,8 @@ returns-4 : tie.Need-returns-4
 returns-4 c =
     let named = c .before .before .before .before .before .before in
     λ ks table f. rw (
-      sym (named .before .first-is .ensures) ∙ named .if1 .left,
-      sym (c .before .before .before .before .before .constant .ensures ks table) ∙ ap valueOf (c .before .before .before .v .given .1),
+      quote-spaced _ ∙ sym (named .before .first-is .ensures) ∙ named .if1 .left,
+      sym (c .before .before .before .before .before .operand-constant .ensures ks table) ∙ ap valueOf (c .before .before .before .v .given .1),
       tested (c .before) false (c .if2 .left),
     )
     refl
@@ -67,7 +68,7 @@ li-constant-spec =
     (tie.spec
     (λ c κs. search needs)  -- first-is-requires
     returns
-    (λ c κs. search needs)  -- constant-requires
+    (λ c κs. search needs)  -- operand-constant-requires
     (λ c. search needs)  -- enum-known-v
     (λ c. search needs)  -- enum-told
     returns-2

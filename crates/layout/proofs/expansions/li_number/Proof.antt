@@ -19,7 +19,7 @@ returns-2 : tie.Need-returns-2
 unfolding spacedImmOf
 returns-2 c =
     let told = c .before in
-    λ ks table f. c .operand-constant .ensures ks table f
+    λ ks table f. c .li-constant .ensures ks table f
     ∙ rw (sym (told .before .before .parse-imm-one-spaced .ensures) ∙ ap immValue (told .enum-told .given .1)) refl
 
 pub li-number-spec : {M : Type 1} → statement M
@@ -29,6 +29,6 @@ li-number-spec =
     (λ c κs. search needs)  -- parse-imm-one-spaced-requires
     (λ c. search needs)  -- enum-known-v
     (λ c. search needs)  -- enum-told
-    (λ c κs. search needs)  -- operand-constant-requires
+    (λ c κs. search needs)  -- li-constant-requires
     returns
     returns-2)

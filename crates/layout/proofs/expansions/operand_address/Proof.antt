@@ -18,9 +18,5 @@ operand-address-spec =
     (λ c κs. search needs)  -- word-len-requires
     (λ c κs. search needs)  -- label-address-requires
     returns
-    (λ c. search needs)  -- slice-aggregate-spaced-address
     (λ c κs. search needs)  -- spaced-address-requires
-    (λ c. search needs)  -- returns-2
-    (λ c. search needs)  -- slice-aggregate-spaced-address-2
-    (λ c κs. search needs)  -- spaced-address-requires-2
-    (λ c. search needs))  -- returns-3
+    (λ c. search needs))  -- returns-2

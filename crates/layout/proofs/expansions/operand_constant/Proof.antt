@@ -9,18 +9,14 @@ use Rattle.layout.proofs.expansions.operand_constant.Tie as tie
 returns : tie.Need-returns
 returns c =
     let a = c .before .before .before .before .before .before .before .args in
-    λ ks table f. rw (unspaced (now (a .operand)) (sym (c .before .before .word-len .ensures) ∙ c .before .if1 .taken)) (c .li-constant .ensures ks table f)
+    λ ks table. rw (unspaced (now (a .operand)) (sym (c .before .before .word-len .ensures) ∙ c .before .if1 .taken)) (c .constant .ensures ks table)
 
 pub operand-constant-spec : {M : Type 1} → statement M
 operand-constant-spec =
     tie.close
     (tie.spec
     (λ c κs. search needs)  -- word-len-requires
-    (λ c κs. search needs)  -- li-constant-requires
+    (λ c κs. search needs)  -- constant-requires
     returns
-    (λ c. search needs)  -- slice-aggregate-spaced-constant
     (λ c κs. search needs)  -- spaced-constant-requires
-    (λ c. search needs)  -- returns-2
-    (λ c. search needs)  -- slice-aggregate-spaced-constant-2
-    (λ c κs. search needs)  -- spaced-constant-requires-2
-    (λ c. search needs))  -- returns-3
+    (λ c. search needs))  -- returns-2

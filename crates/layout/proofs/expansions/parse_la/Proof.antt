@@ -2,7 +2,7 @@
 use mathlib.Core.Path.{_∙_}
 use Rattle.layout.specs.Addresses.{labelAddress}
 use Rattle.layout.specs.Expansions.{expansion}
-use Rattle.layout.proofs.ExpansionLaws.{load-wrong, load-into, label-none, label-some, operand-short}
+use Rattle.layout.proofs.ExpansionLaws.{load-wrong, load-into, label-none, label-some}
 use borrow.Author.Needs.{needs}
 use Rattle.layout.proofs.expansions.parse_la.Statement.{statement}
 use Rattle.layout.proofs.expansions.parse_la.Tie as tie
@@ -10,11 +10,6 @@ use Rattle.layout.proofs.expansions.parse_la.Tie as tie
 returns : tie.Need-returns
 unfolding expansion
 returns c = λ base σ placed const. c .refused .ensures ∙ load-wrong _ _ _ _ (c .before .before .before .load-operands .ensures _) (c .before .enum-told .given .1)
-
-operand-address-requires : tie.Need-operand-address-requires
-operand-address-requires c κs =
-    let pre = c .before .before .before .before .before .before .before .before .before .pre in
-    (pre .0, operand-short _ _ _ _ (c .span-bytes .ensures) (pre .1))
 
 returns-2 : tie.Need-returns-2
 unfolding expansion
@@ -44,7 +39,7 @@ parse-la-spec =
     (λ c κs. search needs)  -- refused-requires
     returns
     (λ c κs. search needs)  -- span-bytes-requires
-    operand-address-requires
+    (λ c κs. search needs)  -- operand-address-requires
     (λ c. search needs)  -- enum-known-a
     (λ c. search needs)  -- enum-told-2
     (λ c κs. search needs)  -- refused-requires-2

@@ -5,7 +5,7 @@ use mir.Syntax.{w32}
 use mir.Facts.{toZ-ofZ}
 use Rattle.layout.specs.Rounds.{constant}
 use Rattle.layout.specs.Expansions.{expansion}
-use Rattle.layout.proofs.ExpansionLaws.{load-wrong, load-into, imm-none, imm-some, operand-short}
+use Rattle.layout.proofs.ExpansionLaws.{load-wrong, load-into, imm-none, imm-some}
 use borrow.Author.Needs.{needs}
 use Rattle.layout.proofs.expansions.parse_li.Statement.{statement}
 use Rattle.layout.proofs.expansions.parse_li.Tie as tie
@@ -13,11 +13,6 @@ use Rattle.layout.proofs.expansions.parse_li.Tie as tie
 returns : tie.Need-returns
 unfolding expansion
 returns c = λ ks table label. c .refused .ensures ∙ load-wrong _ _ _ _ (c .before .before .before .load-operands .ensures _) (c .before .enum-told .given .1)
-
-li-number-requires : tie.Need-li-number-requires
-li-number-requires c κs =
-    let pre = c .before .before .before .before .before .before .before .before .before .pre in
-    (pre .0, operand-short _ _ _ _ (c .span-bytes .ensures) (pre .1))
 
 returns-2 : tie.Need-returns-2
 unfolding expansion
@@ -48,7 +43,7 @@ parse-li-spec =
     (λ c κs. search needs)  -- refused-requires
     returns
     (λ c κs. search needs)  -- span-bytes-requires
-    li-number-requires
+    (λ c κs. search needs)  -- li-number-requires
     (λ c. search needs)  -- enum-known-v
     (λ c. search needs)  -- enum-told-2
     (λ c κs. search needs)  -- refused-requires-2
