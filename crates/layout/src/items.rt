@@ -8,7 +8,6 @@ use crate::records::put_item;
 use crate::state::ItemCount;
 use crate::state::ItemStep;
 use numbers::text::Span;
-ghost use mathlib.Core.Path.{_≡_};
 ghost use Rattle.numbers.specs.code.Spans.{spanned};
 ghost use Rattle.layout.specs.Pseudos.{itemOf};
 ghost use Rattle.layout.specs.Stage.{addItem, textLine};

@@ -22,7 +22,6 @@ use crate::state::RestCounters;
 use crate::state::RestStep;
 use crate::state::Step;
 use numbers::text::span_bytes;
-ghost use mathlib.Core.Path.{_≡_};
 ghost use Prim.Native.Nat.{_≤_};
 ghost use lib.ListN.{length};
 ghost use Rattle.numbers.specs.Results.{andThen};
