@@ -1,7 +1,8 @@
 /* The layout as one call: target/staticlib/libjig.a, by `rt staticlib jig`. Linux on x86-64.
  *
- * Only what stands under "The caller sees to it" is asked of a caller; nothing checks it. Everything else is proved of the call, for every text,
- * base and set of buffers: the contract is `Called` in crates/jig/specs/Called.antt. */
+ * Only what stands under "The caller sees to it" is asked of a caller; nothing checks it. What the call returns and leaves in the buffers is proved,
+ * for every text, base and set of buffers: the contract is `Called` in crates/jig/specs/Called.antt. The stack is measured; the compiler's back end
+ * is not covered. */
 #ifndef KODHLACE_H
 #define KODHLACE_H
 
@@ -42,7 +43,7 @@ extern "C" {
 #define KODHLACE_ITEM_ADDRESS 0u
 #define KODHLACE_ITEM_LINE 4u
 #define KODHLACE_ITEM_KIND 8u
-#define KODHLACE_ITEM_FIRST_WORD 12u   /* an index into words; its words end where the next item's begin */
+#define KODHLACE_ITEM_FIRST_WORD 12u   /* an index into words; its words end where the next item's begin, the last one's at KODHLACE_WORDS */
 #define KODHLACE_ITEM_SOURCE_START 16u /* the statement after any label */
 #define KODHLACE_ITEM_SOURCE_LENGTH 20u
 

@@ -26,16 +26,16 @@ fields [] = text "\n"
 fields (n ∷ ns) = byte " " ∷ (decimal n ++ fields ns)
 
 -- "one line": a word, then numbers
-abbrev pub lineOf : List ℕ → List ℕ → List ℕ
-lineOf word ns = word ++ fields ns
+abbrev pub outputLine : List ℕ → List ℕ → List ℕ
+outputLine word ns = word ++ fields ns
 
 -- "`ok`, words emitted, data bytes, bss size, evaluations"
 abbrev pub acceptedLine : ℕ → ℕ → ℕ → ℕ → List ℕ
-acceptedLine words bytes bss evaluations = lineOf (text "ok") (words ∷ bytes ∷ bss ∷ evaluations ∷ [])
+acceptedLine words bytes bss evaluations = outputLine (text "ok") (words ∷ bytes ∷ bss ∷ evaluations ∷ [])
 
 -- "or `no`, number, line counted from 1": a refusal's line is counted from 0
 abbrev pub refusedLine : ℕ → ℕ → List ℕ
-refusedLine number line = lineOf (text "no") (number ∷ (line + 1) ∷ [])
+refusedLine number line = outputLine (text "no") (number ∷ (line + 1) ∷ [])
 
 -- the line of an answer; number 0: accepted
 unfoldable pub answerLine : Answer → List ℕ

@@ -5,7 +5,7 @@ ghost use Prim.Native.Nat.{_+_, _*_, _≤_};
 ghost use lib.ListN.{length, take};
 ghost use Rattle.io.specs.Counts.{Counts};
 ghost use Rattle.numbers.specs.Text.{byte};
-ghost use Rattle.bench.specs.Lines.{decimal, fields, lineOf, acceptedLine, refusedLine};
+ghost use Rattle.bench.specs.Lines.{decimal, fields, outputLine, acceptedLine, refusedLine};
 ghost use Rattle.bench.specs.code.Writes.{Begins};
 
 // A number of 64 bits has at most so many digits.
@@ -51,7 +51,7 @@ fn put_fields(dst: &mut [u8], numbers: &[u64]) -> usize
 // A line: a word and numbers.
 fn put_line(out: &mut [u8], word: &[u8], numbers: &[u64]) -> usize
     requires { ⌜ length (now word) + 21 * length (now numbers) + 1 ≤ length (now out) ⌝ }
-    ensures { λ r. ⌜ Begins (lineOf (now (word .entry)) (now (numbers .entry))) (now (out .entry)) (now (out .exit)) r ⌝ }
+    ensures { λ r. ⌜ Begins (outputLine (now (word .entry)) (now (numbers .entry))) (now (out .entry)) (now (out .exit)) r ⌝ }
 {
     let at = bytes::copy(word, out);
     at + put_fields(&mut out[at..], numbers)

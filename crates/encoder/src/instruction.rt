@@ -341,7 +341,7 @@ pub fn form_of(i: Instruction) -> Form
         Instruction::Lui { rd, imm } => Form::U(LUI, rd, imm),
         Instruction::Auipc { rd, imm } => Form::U(AUIPC, rd, imm),
         Instruction::Jal { rd, imm } => Form::J(JAL, rd, imm),
-        Instruction::Ecall => Form::I(SYSTEM, 0b000, Register(0), Register(0), 0),
-        Instruction::Ebreak => Form::I(SYSTEM, 0b000, Register(0), Register(0), 1),
+        Instruction::Ecall => Form::I(SYSTEM, 0b000, Register::ZERO, Register::ZERO, 0),
+        Instruction::Ebreak => Form::I(SYSTEM, 0b000, Register::ZERO, Register::ZERO, 1),
     }
 }

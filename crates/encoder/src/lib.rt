@@ -19,7 +19,7 @@ ghost use mathlib.Core.Path.{_≡_};
 ghost use mathlib.Core.Bool.{_&&_, true};
 ghost use Rattle.encoder.specs.Formats.{joined, rFields, iFields, sFields, bFields, uFields, jFields};
 ghost use Rattle.encoder.specs.Encoding.{checked, isRegister, isBranch, isJump, isShift, isUpper, wordOf, encoding};
-ghost use Rattle.encoder.specs.code.Meanings.{answerOf};
+ghost use Rattle.encoder.specs.code.Meanings.{encodedResult};
 
 // A word, refusal 22 or refusal 23.
 pub enum Encoded {
@@ -36,7 +36,7 @@ fn is_register(r: Register) -> bool
 
 // The word where both tests hold, else the refusal of the first that does not.
 fn answer(registers: bool, field: bool, word: u32) -> Encoded
-    ensures { λ r. ⌜ answerOf r ≡ checked registers field word ⌝ }
+    ensures { λ r. ⌜ encodedResult r ≡ checked registers field word ⌝ }
 {
     if !registers {
         return Encoded::BadRegister;
@@ -66,7 +66,7 @@ fn is_upper(imm: i32) -> bool
 }
 
 fn pack_r(opcode: u8, funct3: u8, funct7: u8, rd: Register, rs1: Register, rs2: Register) -> Encoded
-    ensures { λ r. ⌜ answerOf r ≡ checked (isRegister rd && isRegister rs1 && isRegister rs2) true
+    ensures { λ r. ⌜ encodedResult r ≡ checked (isRegister rd && isRegister rs1 && isRegister rs2) true
         (joined (rFields opcode funct3 funct7 (rd .0) (rs1 .0) (rs2 .0))) ⌝ }
 {
     answer(
@@ -77,7 +77,7 @@ fn pack_r(opcode: u8, funct3: u8, funct7: u8, rd: Register, rs1: Register, rs2: 
 }
 
 fn pack_i(opcode: u8, funct3: u8, rd: Register, rs1: Register, fits: bool, imm: u32) -> Encoded
-    ensures { λ r. ⌜ answerOf r ≡ checked (isRegister rd && isRegister rs1) fits (joined (iFields opcode funct3 (rd .0) (rs1 .0) imm)) ⌝ }
+    ensures { λ r. ⌜ encodedResult r ≡ checked (isRegister rd && isRegister rs1) fits (joined (iFields opcode funct3 (rd .0) (rs1 .0) imm)) ⌝ }
 {
     answer(
         is_register(rd) & is_register(rs1),
@@ -87,7 +87,7 @@ fn pack_i(opcode: u8, funct3: u8, rd: Register, rs1: Register, fits: bool, imm: 
 }
 
 fn pack_shift(opcode: u8, funct3: u8, funct7: u8, rd: Register, rs1: Register, shamt: u8) -> Encoded
-    ensures { λ r. ⌜ answerOf r ≡ checked (isRegister rd && isRegister rs1) (isShift shamt)
+    ensures { λ r. ⌜ encodedResult r ≡ checked (isRegister rd && isRegister rs1) (isShift shamt)
         (joined (rFields opcode funct3 funct7 (rd .0) (rs1 .0) shamt)) ⌝ }
 {
     answer(
@@ -98,7 +98,7 @@ fn pack_shift(opcode: u8, funct3: u8, funct7: u8, rd: Register, rs1: Register, s
 }
 
 fn pack_s(opcode: u8, funct3: u8, rs1: Register, rs2: Register, fits: bool, imm: u32) -> Encoded
-    ensures { λ r. ⌜ answerOf r ≡ checked (isRegister rs1 && isRegister rs2) fits (joined (sFields opcode funct3 (rs1 .0) (rs2 .0) imm)) ⌝ }
+    ensures { λ r. ⌜ encodedResult r ≡ checked (isRegister rs1 && isRegister rs2) fits (joined (sFields opcode funct3 (rs1 .0) (rs2 .0) imm)) ⌝ }
 {
     answer(
         is_register(rs1) & is_register(rs2),
@@ -108,7 +108,7 @@ fn pack_s(opcode: u8, funct3: u8, rs1: Register, rs2: Register, fits: bool, imm:
 }
 
 fn pack_b(opcode: u8, funct3: u8, rs1: Register, rs2: Register, fits: bool, imm: u32) -> Encoded
-    ensures { λ r. ⌜ answerOf r ≡ checked (isRegister rs1 && isRegister rs2) fits (joined (bFields opcode funct3 (rs1 .0) (rs2 .0) imm)) ⌝ }
+    ensures { λ r. ⌜ encodedResult r ≡ checked (isRegister rs1 && isRegister rs2) fits (joined (bFields opcode funct3 (rs1 .0) (rs2 .0) imm)) ⌝ }
 {
     answer(
         is_register(rs1) & is_register(rs2),
@@ -118,13 +118,13 @@ fn pack_b(opcode: u8, funct3: u8, rs1: Register, rs2: Register, fits: bool, imm:
 }
 
 fn pack_u(opcode: u8, rd: Register, fits: bool, imm: u32) -> Encoded
-    ensures { λ r. ⌜ answerOf r ≡ checked (isRegister rd) fits (joined (uFields opcode (rd .0) imm)) ⌝ }
+    ensures { λ r. ⌜ encodedResult r ≡ checked (isRegister rd) fits (joined (uFields opcode (rd .0) imm)) ⌝ }
 {
     answer(is_register(rd), fits, u_word(opcode, rd.0, imm))
 }
 
 fn pack_j(opcode: u8, rd: Register, fits: bool, imm: u32) -> Encoded
-    ensures { λ r. ⌜ answerOf r ≡ checked (isRegister rd) fits (joined (jFields opcode (rd .0) imm)) ⌝ }
+    ensures { λ r. ⌜ encodedResult r ≡ checked (isRegister rd) fits (joined (jFields opcode (rd .0) imm)) ⌝ }
 {
     answer(is_register(rd), fits, j_word(opcode, rd.0, imm))
 }
@@ -132,7 +132,7 @@ fn pack_j(opcode: u8, rd: Register, fits: bool, imm: u32) -> Encoded
 // The word of a format's fields, or the refusal. Each immediate's test is chosen here, and its bits are taken; the words are made
 // of bits alone.
 pub fn pack(form: Form) -> Encoded
-    ensures { λ r. ⌜ answerOf r ≡ wordOf form ⌝ }
+    ensures { λ r. ⌜ encodedResult r ≡ wordOf form ⌝ }
 {
     match form {
         Form::R(opcode, funct3, funct7, rd, rs1, rs2) => pack_r(
@@ -162,7 +162,7 @@ pub fn pack(form: Form) -> Encoded
 
 // The word of an instruction, or the refusal.
 pub fn encode(i: Instruction) -> Encoded
-    ensures { λ r. ⌜ answerOf r ≡ encoding i ⌝ }
+    ensures { λ r. ⌜ encodedResult r ≡ encoding i ⌝ }
 {
     pack(form_of(i))
 }

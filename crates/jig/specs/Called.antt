@@ -6,8 +6,8 @@ use lib.ListN.{take}
 use Rattle.layout.specs.declared.assembler.Answer as answered
 use Rattle.layout.specs.Bytes.{padded}
 use Rattle.layout.specs.Limits.{Lent}
-use Rattle.layout.specs.Layouts.{Counts, Buffers, callOf}
-use Rattle.layout.specs.Demands.{Demanded}
+use Rattle.layout.specs.Layouts.{Counts, Buffers, Answer}
+use Rattle.layout.specs.Calls.{Assembled}
 use Rattle.layout.specs.code.Calls.{countsIn}
 
 -- a line and the counts as numbers, in the order in which they are handed over
@@ -34,9 +34,10 @@ numbersLent n xs = padded n (take n xs)
 
 -- A text at a base, with so much lent, and n numbers lent for the counts: r is returned, cs and b are left in what was lent.
 pub record Called (t : List ℕ) (base : ℕ) (k : Lent) (n r : ℕ) (cs : List ℕ) (b : Buffers) : Type 0 where
-  -- the number, 0 where accepted; the line and every count; the content of each output: what the definition gives, refused or accepted
-  pub number : r ≡ callOf t base k .number
-  pub counts : cs ≡ numbersLent n (nine (callOf t base k .line) (callOf t base k .counts))
-  pub buffers : b ≡ callOf t base k .buffers
-  -- and the order's demand 3 holds of that
-  pub demanded : Demanded t base k (callOf t base k)
+  -- the answer that is handed over meets the call's contract: the order's three demands
+  pub answer : Answer
+  pub assembled : Assembled t base k answer
+  -- its number is returned, 0 where it is accepted; its line and counts, and its outputs, are left
+  pub number : r ≡ answer .number
+  pub counts : cs ≡ numbersLent n (nine (answer .line) (answer .counts))
+  pub buffers : b ≡ answer .buffers

@@ -27,8 +27,8 @@ use Rattle.layout.specs.code.Orders.{LabelAtFits, LabelTable}
 use Rattle.layout.specs.code.Placed.{PlaceCoded, LabelsPlaced, Unplaced}
 use Rattle.layout.proofs.Each.{each-map, each-at}
 use Rattle.layout.proofs.TableLaws.{table-set}
-use Rattle.layout.proofs.LabelTables.{nameOf, recordOf, label-sized, table-within, label-back, names-back, table-indexed}
-use Rattle.layout.proofs.LabelLaws.{coded, coded-fit, stand-table, searched, Known, New, look-known, look-new}
+use Rattle.layout.proofs.LabelTables.{labelAtName, labelRecordOf, label-sized, table-within, label-back, names-back, table-indexed}
+use Rattle.layout.proofs.LabelLaws.{coded, coded-fit, stand-table, searched, LabelKnown, New, look-known, look-new}
 use Rattle.layout.proofs.Fields.{place-below, placed-fit}
 
 -- ---- a place's address by its code
@@ -128,10 +128,10 @@ module _ {b₀ : List ℕ} {count : ℕ} {s : Starts} where
 
     module _ (r : LabelRecord) (e : r ≡ labelRecordAt b i) where
       -- its record still has its place's code
-      still-coded : (u : Unplaced b₀ count s) → r ≡ recordOf (coded (label u))
+      still-coded : (u : Unplaced b₀ count s) → r ≡ labelRecordOf (coded (label u))
       still-coded u =
           e ∙ label-back (m .table u) (coded (named [])) i more
-          ∙ ap recordOf (partly-at (u .base) (u .state) i (u .state .labels) (named []))
+          ∙ ap labelRecordOf (partly-at (u .base) (u .state) i (u .state .labels) (named []))
 
       pub place-back : Unplaced b₀ count s → PlaceCoded s (r .address)
       place-back u =
@@ -191,16 +191,16 @@ module _ {b₀ : List ℕ} {count : ℕ} {s : Starts} where
 
 module _ {t : List ℕ} {base : ℕ} {σ : State} {count : ℕ} {b : LabelStore} (p : LabelsPlaced t base σ count b) where
   placed-names : labelNames t (b .records) 0 count ≡ map labelName (σ .labels)
-  placed-names = names-back (p .table) ∙ map-map nameOf (placed base σ) (σ .labels)
+  placed-names = names-back (p .table) ∙ map-map labelAtName (placed base σ) (σ .labels)
 
   pub placed-indexed : LabelsIndexed t (b .records) (b .index) count
   placed-indexed =
-      let names = map-map nameOf (placed base σ) (σ .labels) in
+      let names = map-map labelAtName (placed base σ) (σ .labels) in
       table-indexed (p .table) (b .index) (rw names (p .indexed)) (rw names (p .distinct))
 
   module _ (n : List ℕ) where
     module _ (j : ℕ) (e : some j ≡ lookupIn n 0 (labelNames t (b .records) 0 count)) where
-      known : Known (named n) (σ .labels) j
+      known : LabelKnown (named n) (σ .labels) j
       known = look-known (named n) (σ .labels) j (searched n (σ .labels) placed-names (some j) e)
 
       pub found-label : true ≡ isLabel n (σ .labels)

@@ -8,8 +8,8 @@ use mathlib.Core.List.{List, [], _∷_, _++_, append-assoc, append-nil}
 use lib.ListN.{length, take, drop, getD, set, replicate, length-append, length-drop, length-replicate, drop-of-length-le}
 use lib.Arith.{mod-mul}
 use lib.Seq.{take-all, take-at, drop-at, take-suc, drop-cons, drop-drop, take-append-le, drop-append-le, drop-append-add, set-at, sets-eq, length-take-le, append-snoc}
-use Rattle.layout.specs.Bytes.{le, put, padded}
-use Rattle.layout.specs.Records.{leValue}
+use Rattle.layout.specs.Bytes.{littleEndian, put, padded}
+use Rattle.layout.specs.Records.{littleEndianValue}
 
 -- ---- stores
 
@@ -97,64 +97,64 @@ copied-more src dst i h k =
 
 -- ---- numbers as bytes
 
-pub length-le : (w v : ℕ) → length (le w v) ≡ w
-unfolding le
-length-le zero v = refl
-length-le (suc w) v = ap suc (length-le w (v / 256))
+pub length-little-endian : (w v : ℕ) → length (littleEndian w v) ≡ w
+unfolding littleEndian
+length-little-endian zero v = refl
+length-little-endian (suc w) v = ap suc (length-little-endian w (v / 256))
 
 -- the bytes above the low w, w at a time
 high : (w v : ℕ) → v / 256 / 256 ^ w ≡ v / 256 ^ suc w
 high w v = div-div-eq-div-mul v 256 (256 ^ w) ∙ ap (λ (k : ℕ). v / k) (sym (pow-succ' 256 w))
 
 -- one byte more
-le-more : (w v : ℕ) → le (suc w) v ≡ le w v ++ (v / 256 ^ w % 256 ∷ [])
-unfolding le
-le-more zero v = rw (div-one v)
-le-more (suc w) v = ap (λ (bs : List ℕ). v % 256 ∷ bs) (le-more w (v / 256) ∙ rw (high w v))
+little-endian-more : (w v : ℕ) → littleEndian (suc w) v ≡ littleEndian w v ++ (v / 256 ^ w % 256 ∷ [])
+unfolding littleEndian
+little-endian-more zero v = rw (div-one v)
+little-endian-more (suc w) v = ap (λ (bs : List ℕ). v % 256 ∷ bs) (little-endian-more w (v / 256) ∙ rw (high w v))
 
 -- the low bytes are those of the low part
-le-low : (w v : ℕ) → le w (v % 256 ^ w) ≡ le w v
-unfolding le
-le-low zero v = refl
-le-low (suc w) v =
+little-endian-low : (w v : ℕ) → littleEndian w (v % 256 ^ w) ≡ littleEndian w v
+unfolding littleEndian
+little-endian-low zero v = refl
+little-endian-low (suc w) v =
     let split : v % 256 ^ suc w ≡ (v / 256 % 256 ^ w) * 256 + v % 256 =
     rw (pow-suc 256 w) (mod-mul v {m = 256 ^ w} {c = 256} (one-le-pow w 256 (omega arith)) (omega arith)) in
     let first : v % 256 ^ suc w % 256 ≡ v % 256 = omega (arith, split) in
     let rest : v % 256 ^ suc w / 256 ≡ v / 256 % 256 ^ w = omega (arith, split) in
-    rw (first, rest) (ap (λ (bs : List ℕ). v % 256 ∷ bs) (le-low w (v / 256)))
+    rw (first, rest) (ap (λ (bs : List ℕ). v % 256 ∷ bs) (little-endian-low w (v / 256)))
 
 -- what storing the low byte, or the four low ones, leaves
-pub stored-one : (v : ℕ) (dst : List ℕ) → 1 ≤ length dst → set dst 0 (v % 256) ≡ le 1 v ++ drop 1 dst
-unfolding le
+pub stored-one : (v : ℕ) (dst : List ℕ) → 1 ≤ length dst → set dst 0 (v % 256) ≡ littleEndian 1 v ++ drop 1 dst
+unfolding littleEndian
 stored-one v dst h = sets-eq (v % 256 ∷ []) dst 0 h
 
-pub stored-four : (v : ℕ) (dst : List ℕ) → put 0 (le 4 (v % 2 ^ 32)) dst ≡ le 4 v ++ drop 4 dst
-unfolding le
-stored-four v dst = ap (λ (bs : List ℕ). put 0 bs dst) (le-low 4 v)
+pub stored-four : (v : ℕ) (dst : List ℕ) → put 0 (littleEndian 4 (v % 2 ^ 32)) dst ≡ littleEndian 4 v ++ drop 4 dst
+unfolding littleEndian
+stored-four v dst = ap (λ (bs : List ℕ). put 0 bs dst) (little-endian-low 4 v)
 
 -- what a loop that stores v from its low byte on leaves, turn by turn
-pub stored-more : (v i left : ℕ) (dst : List ℕ) → left ≡ v / 256 ^ i → i < length dst → set (le i v ++ drop i dst) i (left % 256) ≡ le (i + 1) v ++ drop (i + 1) dst
+pub stored-more : (v i left : ℕ) (dst : List ℕ) → left ≡ v / 256 ^ i → i < length dst → set (littleEndian i v ++ drop i dst) i (left % 256) ≡ littleEndian (i + 1) v ++ drop (i + 1) dst
 stored-more v i left dst e h =
-    rw (drop-cons dst i 0 h, add-one i, le-more i v, e)
-    (set-at (le i v) (getD dst i 0) (drop (suc i) dst) (v / 256 ^ i % 256) i (length-le i v)
-    ∙ sym (append-snoc (le i v) (v / 256 ^ i % 256) (drop (suc i) dst)))
+    rw (drop-cons dst i 0 h, add-one i, little-endian-more i v, e)
+    (set-at (littleEndian i v) (getD dst i 0) (drop (suc i) dst) (v / 256 ^ i % 256) i (length-little-endian i v)
+    ∙ sym (append-snoc (littleEndian i v) (v / 256 ^ i % 256) (drop (suc i) dst)))
 
 pub left-more : (v i left : ℕ) → left ≡ v / 256 ^ i → left / 256 ≡ v / 256 ^ (i + 1)
 left-more v i left e = rw (e, add-one i, pow-suc 256 i) (div-div-eq-div-mul v (256 ^ i) 256)
 
-pub le-value : (w v : ℕ) → leValue (le w v) ≡ v % 256 ^ w
-unfolding le leValue
-le-value zero v = omega arith
-le-value (suc w) v = rw (le-value w (v / 256), pow-suc 256 w, mod-mul v {m = 256 ^ w} {c = 256} (one-le-pow w 256 (omega arith)) (omega arith)) (omega arith)
+pub little-endian-value : (w v : ℕ) → littleEndianValue (littleEndian w v) ≡ v % 256 ^ w
+unfolding littleEndian littleEndianValue
+little-endian-value zero v = omega arith
+little-endian-value (suc w) v = rw (little-endian-value w (v / 256), pow-suc 256 w, mod-mul v {m = 256 ^ w} {c = 256} (one-le-pow w 256 (omega arith)) (omega arith)) (omega arith)
 
 -- a number of four bytes is read back
-pub le-back : (v : ℕ) → v < 2 ^ 32 → leValue (le 4 v) ≡ v
-le-back v h = le-value 4 v ∙ mod-eq-of-lt h
+pub little-endian-back : (v : ℕ) → v < 2 ^ 32 → littleEndianValue (littleEndian 4 v) ≡ v
+little-endian-back v h = little-endian-value 4 v ∙ mod-eq-of-lt h
 
 -- four bytes read at a place
 pub four-at : (xs : List ℕ) (at : ℕ) → at + 4 ≤ length xs
-    → getD xs at 0 + 256 * (getD xs (at + 1) 0 + 256 * (getD xs (at + 2) 0 + 256 * getD xs (at + 3) 0)) ≡ leValue (take 4 (drop at xs))
-unfolding leValue
+    → getD xs at 0 + 256 * (getD xs (at + 1) 0 + 256 * (getD xs (at + 2) 0 + 256 * getD xs (at + 3) 0)) ≡ littleEndianValue (take 4 (drop at xs))
+unfolding littleEndianValue
 four-at xs at h =
     rw (
       add-one at,
@@ -168,8 +168,8 @@ four-at xs at h =
     (omega arith)
 
 -- eight bytes are four low and four high
-eights : (ys : List ℕ) → 8 ≤ length ys → leValue (take 4 ys) + 4294967296 * leValue (take 4 (drop 4 ys)) ≡ leValue (take 8 ys)
-unfolding leValue
+eights : (ys : List ℕ) → 8 ≤ length ys → littleEndianValue (take 4 ys) + 4294967296 * littleEndianValue (take 4 (drop 4 ys)) ≡ littleEndianValue (take 8 ys)
+unfolding littleEndianValue
 eights [] h = absurd (omega arith)
 eights (a ∷ []) h = absurd (omega arith)
 eights (a ∷ b ∷ []) h = absurd (omega arith)
@@ -181,5 +181,5 @@ eights (a ∷ b ∷ c ∷ d ∷ e ∷ f ∷ g ∷ []) h = absurd (omega arith)
 eights (a ∷ b ∷ c ∷ d ∷ e ∷ f ∷ g ∷ i ∷ ys) h = omega arith
 
 pub eight-at : (xs : List ℕ) (at : ℕ) → at + 8 ≤ length xs
-    → leValue (take 4 (drop at xs)) + 4294967296 * leValue (take 4 (drop (at + 4) xs)) ≡ leValue (take 8 (drop at xs))
+    → littleEndianValue (take 4 (drop at xs)) + 4294967296 * littleEndianValue (take 4 (drop (at + 4) xs)) ≡ littleEndianValue (take 8 (drop at xs))
 eight-at xs at h = rw (← drop-drop 4 at xs) (eights (drop at xs) (rw (length-drop at xs) (omega arith)))

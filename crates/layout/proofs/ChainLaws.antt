@@ -20,10 +20,11 @@ use Rattle.layout.specs.Rounds.{Found, Known, pendingCount, firstPending
 use Rattle.layout.specs.Terms.{isUsed}
 use Rattle.layout.specs.Chains.{Among, first, later, nameOf, Reaches, uses, onto, Unresolved, undefined, circular, NamesFirst, Chained}
 use Rattle.layout.specs.code.Fits.{Each}
+use Rattle.layout.specs.code.Names.{knownName}
 use Rattle.layout.proofs.StageOrder.{Rising}
 use Rattle.layout.proofs.RoundHistory.{At, here, there, at-same, of-each, Earlier, shown-whole, History, AllFound, Stuck}
 use Rattle.layout.proofs.RoundHistory.{none-pending, IsFound}
-use Rattle.layout.proofs.RoundLaws.{knownName, none-all, Before, Free, Lacks, Evaluator, never-earlier, found-free, same-one, used-before}
+use Rattle.layout.proofs.RoundLaws.{none-all, Before, Free, Lacks, Evaluator, never-earlier, found-free, same-one, used-before}
 
 -- ---- members and places
 
@@ -65,7 +66,7 @@ named-one (e ∷ es) n = by (same (nameOf e) n) refl (named-one es n)
 
 -- ---- chains
 
-earlier-trans : (a i b j c k : ℕ) → Earlier a i b j → Earlier b j c k → Earlier a i c k
+pub earlier-trans : (a i b j c k : ℕ) → Earlier a i b j → Earlier b j c k → Earlier a i c k
 earlier-trans a i b j c k (inl x) (inl y) = inl (omega arith)
 earlier-trans a i b j c k (inl x) (inr y) = inl (omega arith)
 earlier-trans a i b j c k (inr x) (inl y) = inl (omega arith)

@@ -9,9 +9,9 @@ use lib.ListN.{length, drop, getD, drop-of-length-le}
 use lib.Seq.{drop-cons}
 use borrow.Author.Tests.{lt-ltb, le-ltb, eq-eqb, ne-eqb}
 use Rattle.numbers.proofs.Bools.{or-left, or-right}
-use Rattle.layout.specs.declared.assembler.Bytes.the-variants as bytes
+use Rattle.numbers.specs.Results.{value, refused}
 use Rattle.layout.specs.Layouts.{checkBytes}
-use Rattle.layout.specs.code.Checks.{anyHigh, BytesAgree}
+use Rattle.layout.specs.code.Checks.{anyHigh}
 
 or-assoc : (a b c : Bool) → (a || b) || c ≡ a || (b || c)
 or-assoc true b c = refl
@@ -36,7 +36,7 @@ module _ (t : List ℕ) (i : ℕ) where
       or-false false = refl
 
   module _ (line : ℕ) (h : i < length t) (e : checkBytes line (drop i t) ≡ checkBytes 0 t) where
-    pub line-high : 127 < getD t i 0 → BytesAgree (bytes.High line) (checkBytes 0 t)
+    pub line-high : 127 < getD t i 0 → refused (record { number = 1; line = line }) ≡ checkBytes 0 t
     unfolding checkBytes
     line-high q = rw (← e, drop-cons t i 0 h, checkBytes, lt-ltb 127 (getD t i 0) q) refl
 
@@ -51,13 +51,13 @@ module _ (t : List ℕ) (i : ℕ) where
       line-same q =
           sym (rw (drop-cons t i 0 h, checkBytes, le-ltb 127 (getD t i 0) low, ne-eqb (getD t i 0) 10 q, add-one i) refl) ∙ e
 
-  pub line-end : (line : ℕ) → length t ≤ i → checkBytes line (drop i t) ≡ checkBytes 0 t → BytesAgree bytes.Fine (checkBytes 0 t)
+  pub line-end : (line : ℕ) → length t ≤ i → checkBytes line (drop i t) ≡ checkBytes 0 t → value tt ≡ checkBytes 0 t
   unfolding checkBytes
-  line-end line h e = rw (← e, drop-of-length-le t {i = i} h) tt
+  line-end line h e = rw (← e, drop-of-length-le t {i = i} h) refl
 
 -- none above 127: every byte is fine
-pub none-high : (t : List ℕ) (line : ℕ) → anyHigh t ≡ false → BytesAgree bytes.Fine (checkBytes line t)
+pub none-high : (t : List ℕ) (line : ℕ) → anyHigh t ≡ false → value tt ≡ checkBytes line t
 unfolding anyHigh checkBytes
-none-high [] line e = tt
+none-high [] line e = refl
 none-high (b ∷ bs) line e =
     rw (checkBytes, or-left (ltb 127 b) (anyHigh bs) e) (none-high bs (cond (eqb b 10) (suc line) line) (or-right (ltb 127 b) (anyHigh bs) e))

@@ -21,13 +21,14 @@ use Rattle.layout.specs.Rounds.{pendingCount, unresolved, rounds}
 use Rattle.layout.specs.Layouts.{resolve}
 use Rattle.layout.specs.Chains.{Among, nameOf, Worth, ofLabel, ofEquate, areDistinct, Conditions, Chained}
 use Rattle.layout.specs.code.Fits.{Each}
+use Rattle.layout.specs.code.Names.{knownName}
 use Rattle.layout.proofs.Each.{each-append}
 use Rattle.layout.proofs.Gives.{Comes, and-then-comes}
 use Rattle.layout.proofs.SumLaws.{never-refused, summed-whole}
 use Rattle.layout.proofs.RoundHistory.{At, here, there, at-same, of-each, equates-all, given}
-use Rattle.layout.proofs.RoundLaws.{knownName, some-one, at-middle}
+use Rattle.layout.proofs.RoundLaws.{some-one, at-middle}
 use Rattle.layout.proofs.ChainLaws.{among-at, named-none, none-chained}
-use Rattle.layout.proofs.ResolveLaws.{placeOf, TurnSays, named-label, named-again, tries, turn-says, tried, Sums, turn-said}
+use Rattle.layout.proofs.ResolveLaws.{ownAddressOf, TurnSays, named-label, named-again, tries, turn-says, tried, Sums, turn-said}
 use Rattle.layout.proofs.ResolveLaws.{own-evaluator, RoundsCome, all-end}
 
 -- ---- distinct names
@@ -99,7 +100,7 @@ module _ (base : ℕ) (σ : State) (C : Conditions base σ) where
         never m (named-again p l) = l unnamed
         never m (tries t) =
             let w = C .wellFormed (k .equate) among in
-            never-refused (look base σ S) (placeOf base σ (k .equate)) (exprText (k .equate .expr)) (w .0) m (w .1)
+            never-refused (look base σ S) (ownAddressOf base σ (k .equate)) (exprText (k .equate .expr)) (w .0) m (w .1)
             (C .neverBeyond (k .equate) among (look base σ S) grounded (w .0) (w .1)) (t .evaluated)
 
         by : (v : Evaluated) → turn base σ S (k .equate) ≡ v → SafeTurn (k .equate) v
@@ -108,7 +109,7 @@ module _ (base : ℕ) (σ : State) (C : Conditions base σ) where
             let s : Sums base σ S (k .equate) z =
             turn-said base σ S (k .equate) (value (some z)) (tried base σ S (k .equate) (some z) q) in
             ofEquate (k .equate) among (look base σ S) grounded (s .terms) (s .are) z
-            (summed-whole (look base σ S) (placeOf base σ (k .equate)) (term positive positive) ts z s)
+            (summed-whole (look base σ S) (ownAddressOf base σ (k .equate)) (term positive positive) ts z s)
         by (value none) q = tt
         by (refused m) q = never m (turn-says base σ S (k .equate) (refused m) q)
 

@@ -21,7 +21,7 @@ use Rattle.layout.specs.declared.data.Write.{Write}
 use Rattle.layout.specs.declared.data.Write.the-variants.{Number, Text, Gap, Address}
 use Rattle.layout.specs.declared.records.LabelWordRecord.{LabelWordRecord}
 use Rattle.layout.specs.declared.state.DataCount.{DataCount}
-use Rattle.layout.specs.Bytes.{le, put, padded}
+use Rattle.layout.specs.Bytes.{littleEndian, put, padded}
 use Rattle.layout.specs.Limits.{textLimit, labelWordLimit}
 use Rattle.layout.specs.Records.{fieldBytes}
 use Rattle.layout.specs.State.{LabelWord, Stored}
@@ -31,7 +31,7 @@ use Rattle.layout.specs.Stage.{writeSize, writeBytes, growData, addLabel
 use Rattle.layout.specs.code.Spans.{SpanWithin}
 use Rattle.layout.specs.code.Rows.{Small}
 use Rattle.layout.specs.code.Tables.{labelWordSize, labelWordFields}
-use Rattle.layout.specs.code.Writes.{writeAt, WriteFits, writtenBytes, Sized}
+use Rattle.layout.specs.code.Writes.{writeAt, WriteFits, writtenBytes, TextSized}
 use Rattle.layout.specs.code.Steps.{Agrees, Steps}
 use Rattle.layout.specs.code.Stands.{labelWordOf, LabelWordsStand, StoredStand, dataStore}
 use Rattle.layout.specs.code.Fits.{StoredFits}
@@ -39,10 +39,11 @@ use Rattle.layout.proofs.data.Write.{the-type}
 use Rattle.layout.proofs.Each.{each-append}
 use Rattle.layout.proofs.Gives.{Gives}
 use Rattle.layout.proofs.Kept.{write-length, data-write-fits}
-use Rattle.layout.proofs.ByteLaws.{put-lent, put-put, put-pad, length-put, length-mid, length-le}
+use Rattle.layout.proofs.ByteLaws.{put-lent, put-put, put-pad, length-put, length-mid, length-little-endian}
 use Rattle.layout.proofs.TableLaws.{table-more}
 use Rattle.layout.proofs.SpanLaws.{spanned-size}
 use Rattle.layout.proofs.ReservationLaws.{aligned-bounds}
+use Rattle.layout.proofs.StepLaws.{lift-stop}
 
 -- ---- how much a write takes
 
@@ -69,7 +70,7 @@ Takes t p x n = (n ≡ writeSize p (writeAt t x)) × (n ≤ 4294967296)
 
 module _ (t : List ℕ) (p : ℕ) (x : Write) where
   pub number-takes : (w : Width) (v : ℤ) (n : ℕ) → x ≡ Number w v → n ≡ widthBytes w → Takes t p x n
-  number-takes w v n e q = rw (e, length-le (widthBytes w) (bits 64 v)) (q, omega (arith, q, width-small w))
+  number-takes w v n e q = rw (e, length-little-endian (widthBytes w) (bits 64 v)) (q, omega (arith, q, width-small w))
 
   pub text-takes : (q : Span) (z : ℕ) → x ≡ Text q z → WriteFits t x → length t ≤ textLimit → Takes t p x (q .len + z)
   text-takes q z e f h =
@@ -83,7 +84,7 @@ module _ (t : List ℕ) (p : ℕ) (x : Write) where
 
 -- a string, and its zeros in the part after it
 module _ (t dst src : List ℕ) (n : ℕ) (x : Write) (q : Span) (z : ℕ) (e : x ≡ Text q z) (is : src ≡ spanned t q) (f : WriteFits t x)
-    (s : Sized x n) (h : n ≤ length dst) where
+    (s : TextSized x n) (h : n ≤ length dst) where
   text-within : SpanWithin t q
   text-within = (rw e at f) .0
 
@@ -130,7 +131,7 @@ no-word t line p (Gap r) ws h = refl
 no-word t line p (Address q) ws h = absurd (miss (0 ∷ 1 ∷ 2 ∷ []) 3 tt h)
 
 pub label-word-sized : (r : LabelWordRecord) → length (fieldBytes (labelWordFields r)) ≡ labelWordSize
-unfolding fieldBytes le
+unfolding fieldBytes littleEndian
 label-word-sized r = refl
 
 module _ (t : List ℕ) (n : ℕ) (b : List ℕ) (line p : ℕ) (x : Write) where
@@ -165,14 +166,14 @@ module _ (t : List ℕ) (n : ℕ) (b : List ℕ) (line p : ℕ) (x : Write) wher
 
 -- what the code's write takes is what its bytes are, and what it puts is what the definition's write has
 module _ (t : List ℕ) (p : ℕ) (n : ℕ) where
-  pub write-sized : (x : Write) → WriteFits t x → n ≡ writeSize p (writeAt t x) → Sized x n
+  pub write-sized : (x : Write) → WriteFits t x → n ≡ writeSize p (writeAt t x) → TextSized x n
   write-sized (Number w v) f e = tt
   write-sized (Text q z) f e = e ∙ text-length t q z (f .0)
   write-sized (Gap r) f e = tt
   write-sized (Address q) f e = tt
 
   written-is : (x : Write) → n ≡ writeSize p (writeAt t x) → writtenBytes t n x ≡ writeBytes p (writeAt t x)
-  written-is (Number w v) e = ap (λ (i : ℕ). le i (bits 64 v)) (e ∙ length-le (widthBytes w) (bits 64 v))
+  written-is (Number w v) e = ap (λ (i : ℕ). littleEndian i (bits 64 v)) (e ∙ length-little-endian (widthBytes w) (bits 64 v))
   written-is (Text q z) e = refl
   written-is (Gap r) e = ap (λ (i : ℕ). replicate i 0) e
   written-is (Address q) e = ap (λ (i : ℕ). replicate i 0) e
@@ -193,12 +194,12 @@ module _ (k : Room) (line : ℕ) (w : directive.Write) (σ : Stored) (p : ℕ) (
   data-grows h = rw (dataWrite, growData, le-leb (length (σ .bytes) + writeSize (length (σ .bytes)) w) (k .bytes) (rw e at h), e) refl
 
 -- steps of the data: m are the buffer's bytes, l the label words' records
-abbrev pub DataSteps : List ℕ → Room → DataCount → List ℕ → List ℕ → Result ℕ DataCount → List ℕ → List ℕ → (Stored → Result ℕ Stored) → Type 0
-DataSteps t k c m l r m′ l′ f = Steps (StoredStand t k) c (dataStore m l) r (dataStore m′ l′) f
+abbrev pub StoredSteps : List ℕ → Room → DataCount → List ℕ → List ℕ → Result ℕ DataCount → List ℕ → List ℕ → (Stored → Result ℕ Stored) → Type 0
+StoredSteps t k c m l r m′ l′ f = Steps (StoredStand t k) c (dataStore m l) r (dataStore m′ l′) f
 
 module _ (t : List ℕ) (k : Room) (c : DataCount) (m l : List ℕ) (line : ℕ) (x : Write) (n : ℕ)
     (size : n ≡ writeSize (c .bytes) (writeAt t x)) where
-  pub data-full : k .bytes < c .bytes + n → DataSteps t k c m l (refused 42) m l (dataWrite k line (writeAt t x))
+  pub data-full : k .bytes < c .bytes + n → StoredSteps t k c m l (refused 42) m l (dataWrite k line (writeAt t x))
   data-full h σ s = rw (data-over k line (writeAt t x) σ (c .bytes) (s .counted) (omega (arith, h, size))) refl
 
   module _ (h : c .bytes + n ≤ k .bytes) (i : line < length t) (ys l′ : List ℕ)
@@ -215,17 +216,14 @@ module _ (t : List ℕ) (k : Room) (c : DataCount) (m l : List ℕ) (line : ℕ)
         ∙ ap (λ (bs : List ℕ). mapped (dataThen (σ .bytes ++ bs)) (addLabelWord line (c .bytes) (writeAt t x) (σ .labelWords)))
         (sym (written-is t (c .bytes) n x size))
 
-    pub data-stops : (q : ℕ) → r ≡ refused q → DataSteps t k c m l (refused q) m′ l′ (dataWrite k line (writeAt t x))
+    pub data-stops : (q : ℕ) → r ≡ refused q → StoredSteps t k c m l (refused q) m′ l′ (dataWrite k line (writeAt t x))
     data-stops q e σ s =
-        rw (grown σ s) (by (addLabelWord line (c .bytes) (writeAt t x) (σ .labelWords)) (rw e at (added (σ .labelWords) (s .labelWords))))
-      where
-        by : (a : Result ℕ (List LabelWord)) → Agrees (λ d. LabelWordsStand t d l′) (refused q) a
-            → Agrees (λ d. StoredStand t k d (dataStore m′ l′)) (refused q) (mapped (dataThen (σ .bytes ++ writtenBytes t n x)) a)
-        by (value ws) g = absurd g
-        by (refused o) g = g
+        rw (grown σ s)
+        (lift-stop (λ d. LabelWordsStand t d l′) (λ d. StoredStand t k d (dataStore m′ l′)) r (addLabelWord line (c .bytes) (writeAt t x) (σ .labelWords)) _ q e
+        (added (σ .labelWords) (s .labelWords)))
 
     pub data-goes : (o : ℕ) → r ≡ value o
-        → DataSteps t k c m l (value (record { bytes = c .bytes + n; «label_words» = o })) m′ l′ (dataWrite k line (writeAt t x))
+        → StoredSteps t k c m l (value (record { bytes = c .bytes + n; «label_words» = o })) m′ l′ (dataWrite k line (writeAt t x))
     data-goes o e σ s =
         rw (grown σ s)
         (by (addLabelWord line (c .bytes) (writeAt t x) (σ .labelWords)) (rw e at (added (σ .labelWords) (s .labelWords)))

@@ -18,7 +18,7 @@ use Rattle.layout.specs.Layouts.{EquateAt, ItemAt, Layout}
 use Rattle.layout.specs.Terms.{literal, named, Term, termsFrom, termsOf, signedSum, namesIn, isUsed}
 use Rattle.layout.specs.Demands.{recordedValue, recordedAddress, finalValue, largest, lawfulRound, sumOfRounds, itemWords}
 use Rattle.layout.proofs.Computing.{computing}
-use Rattle.layout.proofs.TwelveCases.{laid, wordsOf, dataOf, no}
+use Rattle.layout.proofs.TwelveCases.{laid, wordsOf, laidData, no}
 
 -- what the line stage reads
 abbrev stateOf : Result Refusal State → State
@@ -85,17 +85,17 @@ abbrev itemsFrom : Layout → List ItemAt → List (List ℕ)
 itemsFrom l [] = []
 itemsFrom l (i ∷ below) = itemWords l i below ∷ itemsFrom l below
 
-abbrev pub itemsOf : List ℕ → Result Refusal (List (List ℕ))
-itemsOf t = mapped (λ l. itemsFrom l (l .items)) (laid t)
+abbrev pub laidItems : List ℕ → Result Refusal (List (List ℕ))
+laidItems t = mapped (λ l. itemsFrom l (l .items)) (laid t)
 
 pub item-cases :
     -- an li by a small equate, which reserves two words and emits one; an li by its number; an la
-    (itemsOf (text "n = 5\nli a0, n\nli a1, 2048\nla a2, t\nt: nop")
+    (laidItems (text "n = 5\nli a0, n\nli a1, 2048\nla a2, t\nt: nop")
     ≡ value ((0x00500513 ∷ []) ∷ (0x000015B7 ∷ 0x80058593 ∷ []) ∷ (0x00000637 ∷ 0x01860613 ∷ []) ∷ (0 ∷ []) ∷ []))
     -- an equate may be named as a number that `parse_imm` does not take: li then loads its value
     × (wordsOf (text ".equ 99999999999, 5\nli a0, 99999999999") ≡ value (0x00500513 ∷ []))
     -- label words side by side
-    × (dataOf (text ".data\nt: .word u, t\nu: .byte 7") ≡ value (0x08 ∷ 0x10 ∷ 0 ∷ 0 ∷ 0x00 ∷ 0x10 ∷ 0 ∷ 0 ∷ 7 ∷ []))
+    × (laidData (text ".data\nt: .word u, t\nu: .byte 7") ≡ value (0x08 ∷ 0x10 ∷ 0 ∷ 0 ∷ 0x00 ∷ 0x10 ∷ 0 ∷ 0 ∷ 7 ∷ []))
 unfolding computing
 item-cases = (refl, refl, refl)
 

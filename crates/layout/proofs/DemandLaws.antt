@@ -1,40 +1,38 @@
--- Demand 3 of the definitions' layouts: what holds of every accepted one, where 17 stands, and when it comes; and that no refusal's number is 0.
-use Prim.Native.Nat.{ℕ, zero, suc, _+_, _*_, _≤_, _<_}
+-- Demand 3 of the definitions' layouts: what holds of every accepted one, where 17 stands, and when it comes.
+use Prim.Native.Nat.{ℕ, zero, suc, _*_, _≤_}
 use mathlib.Core.Path.{_≡_, refl, sym, _∙_, ap, subst}
 use mathlib.Core.Logic.{_↔_, _⊎_, inl, inr}
-use mathlib.Core.List.{List, [], _∷_, _++_, map}
-use mathlib.Core.Bool.{Bool, true, false, cond, not}
-use mathlib.Core.Option.{Option, none, some}
+use mathlib.Core.List.{List, [], map}
+use mathlib.Core.Bool.{Bool, true, false, not}
 use native.Mathlib.Nat.{suc-mul, mul-suc}
 use native.Mathlib.Omega.{arith}
 use lib.Dec.{ltb, eqb}
-use lib.IntN.{ℤ}
 use lib.ListN.{length, take, drop}
-use borrow.Author.Tests.{ltb-true, ltb-false, le-ltb}
+use borrow.Author.Tests.{ltb-false, le-ltb}
 use Rattle.numbers.specs.Results.{Result, value, refused, andThen}
-use Rattle.numbers.proofs.Bools.{and-left}
 use Rattle.layout.specs.Pieces.{lines, linePieces}
-use Rattle.layout.specs.Refusals.{Refusal, atLine}
+use Rattle.layout.specs.Refusals.{Refusal, byteNumbers, lineNumbers, labelWordNumbers, turnNumbers, pseudoNumbers}
 use Rattle.layout.specs.Limits.{baseLimit, textLimit, Lent, roomOf}
-use Rattle.layout.specs.State.{Equate, ItemLine, LabelWord, State, start}
+use Rattle.layout.specs.State.{Equate, LabelWord, State, start}
 use Rattle.layout.specs.Stage.{lineStage}
-use Rattle.layout.specs.Addresses.{placed, ordered, labelAddress, fillOne, fill}
+use Rattle.layout.specs.Addresses.{placed, ordered, labelAddress, fill}
 use Rattle.layout.specs.Rounds.{constant, turn, Turns}
-use Rattle.layout.specs.Layouts.{ItemAt, Layout, emission, Emitted, itemAt, emit, foundEquates, refuseIf, checkBytes}
+use Rattle.layout.specs.Layouts.{Layout, Emitted, emit, foundEquates, refuseIf, checkBytes}
 use Rattle.layout.specs.Layouts.{resolve, layout, afterLines, layoutOf}
 use Rattle.layout.specs.Chains.{Among, NamesFirst, Conditions, Chained}
 use Rattle.layout.specs.Demands.{recordedAddress, EquateHolds, OneByOne, LabelWordHolds, BeforeRounds, Holds}
 use Rattle.layout.specs.code.Fits.{Fits}
 use Rattle.layout.proofs.ResultLaws.{refused-value, value-same, refused-same}
-use Rattle.layout.proofs.Gives.{Comes, and-then-comes}
+use Rattle.layout.proofs.Gives.{Comes}
 use Rattle.layout.proofs.Kept.{stage-fits}
-use Rattle.layout.proofs.Emissions.{WordsFit, PseudoRefusal, emission-fits}
 use Rattle.layout.proofs.Fields.{LayoutFits, layout-fits}
-use Rattle.layout.proofs.StageOrder.{isEarly, Early, EarlyAt, Laid, StageLaid, stage-laid}
+use Rattle.layout.proofs.RefusalLaws.{in-all, allOf, Said}
+use Rattle.layout.proofs.StageOrder.{Laid, StageLaid, stage-laid}
+use Rattle.layout.proofs.AnswerLaws.{Says, check-says, fill-says, emit-says}
 use Rattle.layout.proofs.RoundHistory.{triangle, AllFound, none-pending}
 use Rattle.layout.proofs.RoundLaws.{spent-sum}
 use Rattle.layout.proofs.ChainLaws.{among-each, stuck-names}
-use Rattle.layout.proofs.ResolveLaws.{turn-early, own-evaluator, RoundsRefused, by-turn, by-end, RoundsCome, all-end}
+use Rattle.layout.proofs.ResolveLaws.{turn-numbered, own-evaluator, RoundsRefused, by-turn, by-end, RoundsCome, all-end}
 use Rattle.layout.proofs.ConditionLaws.{chained-unresolved}
 use Rattle.layout.proofs.EquatesHold.{value-recorded, address-recorded, equates-hold}
 use Rattle.layout.proofs.FillLaws.{WordHolds, fill-holds, address-below}
@@ -42,10 +40,18 @@ use Rattle.layout.proofs.ItemsHold.{EmittedAs, emitted-as, items-hold}
 
 -- ---- numbers
 
-early-some : (n : ℕ) → Early n → 0 < n
-early-some n e = ltb-true 0 n (and-left (ltb 0 n) (not (eqb n 17)) e)
+-- not 17, which the rounds alone say, at their end
+abbrev isEarly : ℕ → Bool
+isEarly n = not (eqb n 17)
 
-not-late : (n : ℕ) → n ≡ 17 → Early n → ⊥
+abbrev EarlyAt : Refusal → Type 0
+EarlyAt r = isEarly (r .number) ≡ true
+
+-- what a stage says whose numbers have no 17
+early : (ns : List ℕ) → allOf isEarly ns ≡ true → (m : ℕ) (r : Refusal) → Said ns m r → EarlyAt r
+early ns h m r s = in-all isEarly ns h (r .number) (s .0)
+
+not-late : (n : ℕ) → n ≡ 17 → isEarly n ≡ true → ⊥
 not-late n q e = let h : isEarly 17 ≡ true = ap isEarly (sym q) ∙ e in let z : _≡_ {A = ℕ} 0 1 = cc in omega arith
 
 -- ---- the way to the rounds
@@ -58,39 +64,14 @@ afterRounds base σ bytes rounds =
 abbrev ownRounds : ℕ → State → Result Refusal Turns
 ownRounds base σ = resolve base σ (σ .rest .equates)
 
--- refused before the rounds, neither by 0 nor by 17; or the rounds decide
+-- refused before the rounds, not by 17; or the rounds decide
 data Way (t : List ℕ) (base : ℕ) (k : Lent) (o : Result Refusal Layout) : Type 0 where
-  before : (r : Refusal) → Early (r .number) → o ≡ refused r → Way t base k o
-  rounds : (σ : State) (bytes : List ℕ) → BeforeRounds t base k σ bytes → o ≡ afterRounds base σ bytes (ownRounds base σ) → Way t base k o
-
--- the number of a refusal, if it is one, is neither 0 nor 17
-abbrev Timely : {A : Type 0} → Result Refusal A → Type 0
-Timely x = Comes (λ _. Unit) EarlyAt x
-
-early-13 : (look : List ℕ → Option ℕ) (ws : List LabelWord) (bytes : List ℕ) → Timely (fill look ws bytes)
-unfolding fill
-early-13 look [] bytes = tt
-early-13 look (w ∷ ws) bytes =
-    and-then-comes (λ _. Unit) (λ _. Unit) EarlyAt (atLine (w .line) (fillOne (look (w .name)) w bytes)) (fill look ws)
-    (by (look (w .name))) (λ bs u. early-13 look ws bs)
-  where
-    by : (o : Option ℕ) → Timely (atLine (w .line) (fillOne o w bytes))
-    by none = refl
-    by (some a) = tt
-
-early-1 : (line : ℕ) (t : List ℕ) → Timely (checkBytes line t)
-unfolding checkBytes
-early-1 line [] = tt
-early-1 line (b ∷ bs) = by (ltb 127 b) (cond (eqb b 10) (suc line) line) (λ l. early-1 l bs)
-  where
-    by : (c : Bool) (n : ℕ) → ((l : ℕ) → Timely (checkBytes l bs))
-        → Timely {A = Unit} (elim c [ true ↦ refused (record { number = 1; line = line }) | false ↦ checkBytes n bs ])
-    by true n more = refl
-    by false n more = more n
+  before : (r : Refusal) → EarlyAt r → o ≡ refused r → Way t base k o
+  byRounds : (σ : State) (bytes : List ℕ) → BeforeRounds t base k σ bytes → o ≡ afterRounds base σ bytes (ownRounds base σ) → Way t base k o
 
 way : (t : List ℕ) (base : ℕ) (k : Lent) → Way t base k (layoutOf t base k)
 unfolding layoutOf afterLines
-way t base k = by (ltb baseLimit base) refl (ltb textLimit (length t)) refl (checkBytes 0 t) refl (early-1 0 t)
+way t base k = by (ltb baseLimit base) refl (ltb textLimit (length t)) refl (checkBytes 0 t) refl (check-says t)
   where
     read : Result Refusal State
     read = lineStage (roomOf k) 0 (linePieces 0 (lines t)) start
@@ -100,24 +81,24 @@ way t base k = by (ltb baseLimit base) refl (ltb textLimit (length t)) refl (che
 
     -- the label words
     fills : (σ : State) → ((bytes : List ℕ) → filled σ ≡ value bytes → BeforeRounds t base k σ bytes) → (x : Result Refusal (List ℕ)) → filled σ ≡ x
-        → Timely x → Way t base k (andThen x (λ bytes. afterRounds base σ bytes (ownRounds base σ)))
-    fills σ b (refused r) q s = before r s refl
-    fills σ b (value bytes) q s = rounds σ bytes (b bytes q) refl
+        → Says labelWordNumbers (length (lines t)) x → Way t base k (andThen x (λ bytes. afterRounds base σ bytes (ownRounds base σ)))
+    fills σ b (refused r) q s = before r (early labelWordNumbers refl (length (lines t)) r s) refl
+    fills σ b (value bytes) q s = byRounds σ bytes (b bytes q) refl
 
     -- the lines
     stages : base ≤ baseLimit → length t ≤ textLimit → checkBytes 0 t ≡ value tt → (x : Result Refusal State) → read ≡ x
-        → StageLaid (0 + length (linePieces 0 (lines t))) x → Way t base k (andThen x (afterLines base))
-    stages low short plain (refused r) q s = before r s refl
+        → StageLaid (length (lines t)) x → Way t base k (andThen x (afterLines base))
+    stages low short plain (refused r) q s = before r (early lineNumbers refl (length (lines t)) r s) refl
     stages low short plain (value σ) q s =
         fills σ (λ bytes f. record { low = low; short = short; plain = plain; read = q; filled = f }) (filled σ) refl
-        (early-13 (labelAddress base σ) (σ .rest .own .stored .labelWords) (σ .rest .own .stored .bytes))
+        (fill-says (labelAddress base σ) (length (lines t)) (σ .rest .own .stored .labelWords) (σ .rest .own .stored .bytes) (s .rest .wordLines))
 
     by : (c : Bool) → ltb baseLimit base ≡ c → (d : Bool) → ltb textLimit (length t) ≡ d → (x : Result Refusal Unit) → checkBytes 0 t ≡ x
-        → Timely x
+        → Says byteNumbers (length (lines t)) x
         → Way t base k (andThen (refuseIf c 40 0) (λ _. andThen (refuseIf d 41 0) (λ _. andThen x (λ _. andThen read (afterLines base)))))
     by true p d q x r s = before _ refl refl
     by false p true q x r s = before _ refl refl
-    by false p false q (refused r) e s = before r s refl
+    by false p false q (refused r) e s = before r (early byteNumbers refl (length (lines t)) r s) refl
     by false p false q (value u) e s =
         stages (ltb-false baseLimit base p) (ltb-false textLimit (length t) q) e read refl (stage-laid t (roomOf k))
 
@@ -140,60 +121,34 @@ from-rounds t base k σ bytes b =
 
 -- ---- 17
 
--- an item's refusal is neither 0 nor 17
-emit-early : (base : ℕ) (const : List ℕ → Option ℤ) (label : List ℕ → Option ℕ) (xs : List ItemLine) (ws : List ℕ) (is : List ItemAt)
-    → Timely (emit base const label xs ws is)
-unfolding emit
-emit-early base const label [] ws is = tt
-emit-early base const label (x ∷ xs) ws is =
-    and-then-comes (λ _. Unit) (λ _. Unit) EarlyAt (atLine (x .line) (emission const label (x .item) (x .source .bytes)))
-    (λ vs. emit base const label xs (ws ++ vs) (is ++ itemAt base x (length ws) ∷ []))
-    (by (emission const label (x .item) (x .source .bytes)) (emission-fits const label (x .item) (x .source .bytes)))
-    (λ vs u. emit-early base const label xs (ws ++ vs) _)
-  where
-    number : (n : ℕ) → PseudoRefusal n → Early n
-    number n (inl p) = ap isEarly p
-    number n (inr (inl p)) = ap isEarly p
-    number n (inr (inr p)) = ap isEarly p
+-- what refuses after the rounds began: a turn or an item, not by 17; or the end of the rounds, by 17
+abbrev LateRefusal : Result Refusal Turns → Refusal → Type 0
+LateRefusal x r = EarlyAt r ⊎ ((r .number ≡ 17) × (x ≡ refused r))
 
-    by : (v : Result ℕ (List ℕ)) → Comes (WordsFit const (x .item) (x .source .bytes)) PseudoRefusal v → Timely (atLine (x .line) v)
-    by (value vs) g = tt
-    by (refused n) g = number n g
-
--- what refuses after the rounds began: a turn or an item, neither by 0 nor by 17; or the end of the rounds, by 17
-abbrev Refuses : Result Refusal Turns → Refusal → Type 0
-Refuses x r = EarlyAt r ⊎ ((r .number ≡ 17) × (x ≡ refused r))
-
-after-refused : (base : ℕ) (σ : State) (bytes : List ℕ) (x : Result Refusal Turns) → RoundsCome base σ (σ .rest .equates) x
-    → (r : Refusal) → afterRounds base σ bytes x ≡ refused r → Refuses x r
-after-refused base σ bytes (refused s) g r e = by g
+after-refused : (base : ℕ) (σ : State) (bytes : List ℕ) (m : ℕ) → Laid m σ → (x : Result Refusal Turns) → RoundsCome base σ (σ .rest .equates) x
+    → (r : Refusal) → afterRounds base σ bytes x ≡ refused r → LateRefusal x r
+after-refused base σ bytes m laid (refused s) g r e = by g
   where
     p : s ≡ r
     p = refused-same e
 
-    by : RoundsRefused base σ (σ .rest .equates) s → Refuses (refused s) r
-    by (by-turn t) = inl (ap (λ (q : Refusal). isEarly (q .number)) (sym p) ∙ turn-early base σ (t .seen) (t .equate) (s .number) (t .refuses))
+    by : RoundsRefused base σ (σ .rest .equates) s → LateRefusal (refused s) r
+    by (by-turn t) =
+        inl (ap (λ (q : Refusal). isEarly (q .number)) (sym p)
+        ∙ in-all isEarly turnNumbers refl (s .number) (turn-numbered base σ (t .seen) (t .equate) (s .number) (t .refuses)))
     by (by-end q w) = inr (ap (λ (q : Refusal). q .number) (sym p) ∙ q, ap refused p)
-after-refused base σ bytes (value x) g r e =
+after-refused base σ bytes m laid (value x) g r e =
     by (emit base (constant (x .known)) (labelAddress base σ) (σ .rest .own .items .list) [] [])
-    (emit-early base (constant (x .known)) (labelAddress base σ) (σ .rest .own .items .list) [] []) e
+    (emit-says base (constant (x .known)) (labelAddress base σ) m (σ .rest .own .items .list) [] [] (laid .rest .itemLines)) e
   where
-    by : (y : Result Refusal Emitted) → Timely y → andThen y (λ e. value (layout base σ bytes x e)) ≡ refused r → Refuses (value x) r
-    by (refused s) h e = inl (ap (λ (q : Refusal). isEarly (q .number)) (sym (refused-same e)) ∙ h)
+    by : (y : Result Refusal Emitted) → Says pseudoNumbers m y → andThen y (λ e. value (layout base σ bytes x e)) ≡ refused r
+        → LateRefusal (value x) r
+    by (refused s) h e = inl (ap (λ (q : Refusal). isEarly (q .number)) (sym (refused-same e)) ∙ early pseudoNumbers refl m s h)
     by (value y) h e = absurd (refused-value (sym e))
 
--- no refusal's number is 0, which says accepted
-pub refusal-numbered : (t : List ℕ) (base : ℕ) (k : Lent) (r : Refusal) → layoutOf t base k ≡ refused r → 0 < r .number
-refusal-numbered t base k r e = by (way t base k)
-  where
-    last : (x : Result Refusal Turns) → Refuses x r → 0 < r .number
-    last x (inl h) = early-some (r .number) h
-    last x (inr h) = omega (arith, h .0)
-
-    by : Way t base k (layoutOf t base k) → 0 < r .number
-    by (before s h q) = early-some (r .number) (ap (λ (x : Refusal). isEarly (x .number)) (refused-same (sym e ∙ q)) ∙ h)
-    by (rounds σ bytes b q) =
-        last (ownRounds base σ) (after-refused base σ bytes (ownRounds base σ) (all-end base σ (σ .rest .equates)) r (sym q ∙ e))
+-- what the lines left
+read-laid : (t : List ℕ) (base : ℕ) (k : Lent) (σ : State) (bytes : List ℕ) → BeforeRounds t base k σ bytes → Laid (length (lines t)) σ
+read-laid t base k σ bytes b = rw (b .read) at (stage-laid t (roomOf k))
 
 -- for every text: where the answer is 17, its line is the first whose equate starts a chain of uses that comes back to a name in it or reaches
 -- an undefined one
@@ -204,22 +159,23 @@ unresolved-line t base k r e n = by (way t base k)
     names : (σ : State) (bytes : List ℕ) → BeforeRounds t base k σ bytes → ownRounds base σ ≡ refused r → NamesFirst σ (r .line)
     names σ bytes b q = last (rw q at (all-end base σ (σ .rest .equates)))
       where
-        laid : Laid (0 + length (linePieces 0 (lines t))) σ
-        laid = rw (b .read) at (stage-laid t (roomOf k))
-
         last : RoundsRefused base σ (σ .rest .equates) r → NamesFirst σ (r .line)
-        last (by-turn x) = absurd (not-late (r .number) n (turn-early base σ (x .seen) (x .equate) (r .number) (x .refuses)))
+        last (by-turn x) =
+            absurd (not-late (r .number) n
+            (in-all isEarly turnNumbers refl (r .number) (turn-numbered base σ (x .seen) (x .equate) (r .number) (x .refuses))))
         last (by-end p s) =
-            stuck-names σ (turn base σ) (own-evaluator base σ) (0 + length (linePieces 0 (lines t))) (laid .rest .equates) (r .line) s
+            stuck-names σ (turn base σ) (own-evaluator base σ) (length (lines t)) (read-laid t base k σ bytes b .rest .equates) (r .line) s
 
-    rest : (σ : State) (bytes : List ℕ) → BeforeRounds t base k σ bytes → Refuses (ownRounds base σ) r
+    rest : (σ : State) (bytes : List ℕ) → BeforeRounds t base k σ bytes → LateRefusal (ownRounds base σ) r
         → (σ : State) × (bytes : List ℕ) × BeforeRounds t base k σ bytes × NamesFirst σ (r .line)
     rest σ bytes b (inl h) = absurd (not-late (r .number) n h)
     rest σ bytes b (inr h) = (σ, bytes, b, names σ bytes b (h .1))
 
     by : Way t base k (layoutOf t base k) → (σ : State) × (bytes : List ℕ) × BeforeRounds t base k σ bytes × NamesFirst σ (r .line)
     by (before s h q) = absurd (not-late (r .number) n (ap (λ (x : Refusal). isEarly (x .number)) (refused-same (sym e ∙ q)) ∙ h))
-    by (rounds σ bytes b q) = rest σ bytes b (after-refused base σ bytes (ownRounds base σ) (all-end base σ (σ .rest .equates)) r (sym q ∙ e))
+    by (byRounds σ bytes b q) =
+        rest σ bytes b (after-refused base σ bytes (length (lines t)) (read-laid t base k σ bytes b) (ownRounds base σ)
+        (all-end base σ (σ .rest .equates)) r (sym q ∙ e))
 
 -- under document 01's conditions 17 comes exactly when an equate starts such a chain
 pub unresolved-exactly : (t : List ℕ) (base : ℕ) (k : Lent) (σ : State) (bytes : List ℕ) → BeforeRounds t base k σ bytes → Conditions base σ
@@ -242,8 +198,8 @@ triangle-is zero = refl
 triangle-is (suc n) = omega (arith, triangle-is n, suc-mul n (suc (suc n)), mul-suc n (suc n))
 
 module _ (t : List ℕ) (base : ℕ) (k : Lent) (σ : State) (bytes : List ℕ) (b : BeforeRounds t base k σ bytes) where
-  laid : Laid (0 + length (linePieces 0 (lines t))) σ
-  laid = rw (b .read) at (stage-laid t (roomOf k))
+  laid : Laid (length (lines t)) σ
+  laid = read-laid t base k σ bytes b
 
   fits : Fits t (roomOf k) σ
   fits = rw (b .read) at (stage-fits t k)
@@ -313,4 +269,4 @@ accepted-holds t base k l e = by (way t base k)
 
     by : Way t base k (layoutOf t base k) → (σ : State) × (bytes : List ℕ) × BeforeRounds t base k σ bytes × Holds base σ l
     by (before r h q) = absurd (refused-value (sym q ∙ e))
-    by (rounds σ bytes b q) = (σ, bytes, b, resolves σ bytes b (ownRounds base σ) (all-end base σ (σ .rest .equates)) (sym q ∙ e))
+    by (byRounds σ bytes b q) = (σ, bytes, b, resolves σ bytes b (ownRounds base σ) (all-end base σ (σ .rest .equates)) (sym q ∙ e))

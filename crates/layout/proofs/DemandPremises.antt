@@ -1,5 +1,5 @@
 -- Document 01's conditions of 17's "exactly" are met: by a text with an undefined name, by one whose equate uses itself, and by one that is
--- accepted.
+-- accepted. So demand 3 holds of no answer to the first two but 17.
 use Prim.Native.Nat.{ℕ}
 use mathlib.Core.Path.{_≡_, refl, sym, _∙_, ap}
 use mathlib.Core.List.{List, [], _∷_}
@@ -16,10 +16,10 @@ use Rattle.layout.specs.Pieces.{piece}
 use Rattle.layout.specs.Refusals.{Refusal}
 use Rattle.layout.specs.State.{Equate, State}
 use Rattle.layout.specs.Stage.{isLabel}
-use Rattle.layout.specs.Layouts.{layoutOf}
+use Rattle.layout.specs.Layouts.{Answer, layoutOf}
 use Rattle.layout.specs.Terms.{literal, named, Atom, Term, termsFrom, termsOf, WellFormed, plusTerm, signedSum, namesIn}
 use Rattle.layout.specs.Chains.{Among, first, uses, undefined, circular, Worth, ofLabel, ofEquate, isWithin, NeverBeyond, Conditions, Chained}
-use Rattle.layout.specs.Demands.{BeforeRounds}
+use Rattle.layout.specs.Demands.{BeforeRounds, Demanded}
 use Rattle.layout.proofs.ResultLaws.{some-same}
 use Rattle.layout.proofs.Computing.{computing}
 use Rattle.layout.proofs.DemandLaws.{unresolved-exactly}
@@ -102,6 +102,9 @@ chained-u = (one (text "u"), first, undefined (text "u") (uses refl) (record { n
 pub comes-u : (r : Refusal) × (layoutOf (text "a = u") 0 full ≡ refused r) × (r .number ≡ 17)
 comes-u = unresolved-exactly (text "a = u") 0 full (state (text "u")) [] before-u conditions-u .1 chained-u
 
+pub owed-u : (x : Answer) → Demanded (text "a = u") 0 full x → x .number ≡ 17
+owed-u x d = d .exactly (state (text "u")) [] before-u conditions-u .1 chained-u
+
 -- ---- `a = a`
 
 before-a : BeforeRounds (text "a = a") 0 full (state (text "a")) []
@@ -138,7 +141,14 @@ chained-a = (one (text "a"), first, circular (one (text "a")) first (uses refl) 
 pub comes-a : (r : Refusal) × (layoutOf (text "a = a") 0 full ≡ refused r) × (r .number ≡ 17)
 comes-a = unresolved-exactly (text "a = a") 0 full (state (text "a")) [] before-a conditions-a .1 chained-a
 
+pub owed-a : (x : Answer) → Demanded (text "a = a") 0 full x → x .number ≡ 17
+owed-a x d = d .exactly (state (text "a")) [] before-a conditions-a .1 chained-a
+
 -- ---- `a = 5`, which is accepted
+
+pub before-5 : BeforeRounds (text "a = 5") 0 full (state (text "5")) []
+unfolding computing
+before-5 = record { low = omega arith; short = omega arith; plain = refl; read = refl; filled = refl }
 
 terms-5 : termsOf (one (text "5")) ≡ some (positiveTerm (literal (pos 5)) ∷ [])
 unfolding computing termsFrom

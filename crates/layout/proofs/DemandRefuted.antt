@@ -1,23 +1,25 @@
 -- Whatever answers as the programs would that document 01 excludes by demand 3, "How much the layout promises", 3, does not meet it; nor does
--- a label or a label word one word off, an li whose words are blank, or an equate whose name another equate or a label has.
+-- a label or a label word one word off, an li whose word is blank or another than lui and addi, of x0 too, or an equate whose name another equate
+-- or a label has.
 use Prim.Native.Nat.{ℕ, zero, suc, _^_, _<_}
 use mathlib.Core.Path.{_≡_, refl, sym, _∙_, ap, subst}
-use mathlib.Core.List.{List, [], _∷_}
+use mathlib.Core.List.{List, [], _∷_, _++_}
 use mathlib.Core.Bool.{true, false, false≢true}
-use mathlib.Core.Option.{some}
+use mathlib.Core.Option.{Option, some}
 use native.Mathlib.Omega.{arith}
 use lib.IntN.{ℤ, pos}
 use lib.ListN.{getD, replicate}
 use Rattle.numbers.specs.Results.{value}
 use Rattle.numbers.specs.Text.{text}
 use Rattle.numbers.specs.Registers.{registerOf}
-use Rattle.encoder.specs.Run.{Registers, done, failed, Leaves}
+use Rattle.encoder.specs.Run.{Registers, done, failed, isLui, isAddi, run}
 use Rattle.layout.specs.declared.state.Section.{Section}
 use Rattle.layout.specs.declared.state.Section.the-variants as section
 use Rattle.layout.specs.declared.pseudo.Pseudo.the-variants.{Li}
-use Rattle.layout.specs.Bytes.{le}
+use Rattle.layout.specs.Bytes.{littleEndian}
 use Rattle.layout.specs.Pieces.{piece, lines, linePieces}
 use Rattle.layout.specs.Limits.{full, roomOf}
+use Rattle.layout.specs.Pseudos.{pseudoOperands}
 use Rattle.layout.specs.State.{Label, Equate, ItemLine, LabelWord, Own, State, start}
 use Rattle.layout.specs.Stage.{lineStage}
 use Rattle.layout.specs.Addresses.{LabelAt}
@@ -38,11 +40,11 @@ pub record Claims (t : List ℕ) (l : Layout) (x : Answer) : Type 0 where
   pub held : heldLayout t (x .counts) (x .buffers) ≡ l
 
 -- what its lines say
-abbrev Says : List ℕ → State → Type 0
-Says t σ = lineStage (roomOf full) 0 (linePieces 0 (lines t)) start ≡ value σ
+abbrev LinesSay : List ℕ → State → Type 0
+LinesSay t σ = lineStage (roomOf full) 0 (linePieces 0 (lines t)) start ≡ value σ
 
 -- it would have to hold of that
-claim-holds : (t : List ℕ) (σ : State) (l : Layout) (x : Answer) → Says t σ → Claims t l x → Demanded t 0 full x → Holds 0 σ l
+claim-holds : (t : List ℕ) (σ : State) (l : Layout) (x : Answer) → LinesSay t σ → Claims t l x → Demanded t 0 full x → Holds 0 σ l
 claim-holds t σ l x r c d =
     let h = d .accepted (c .number) in
     let s : h .0 ≡ σ = value-same (sym (h .2 .read) ∙ r) in
@@ -94,7 +96,7 @@ a = equate 0 (text "a") 4 (text "b+1") 0
 abbrev twoState : State
 twoState = stateWith [] (a ∷ equate 8 (text "b") 12 (text "5") 1 ∷ []) noneOwn
 
-two-says : Says two twoState
+two-says : LinesSay two twoState
 unfolding computing
 two-says = refl
 
@@ -151,7 +153,7 @@ lettered = text ".data\nt: .byte 7"
 abbrev letteredState : State
 letteredState = stateWith (label ∷ []) [] (ownWith section.Data [] 0 (7 ∷ []) [])
 
-lettered-says : Says lettered letteredState
+lettered-says : LinesSay lettered letteredState
 unfolding computing
 lettered-says = refl
 
@@ -174,12 +176,12 @@ labelWord = record { at = 0; name = text "t"; line = 1 }
 abbrev pointingState : State
 pointingState = stateWith (label ∷ []) [] (ownWith section.Data [] 0 (0 ∷ 0 ∷ 0 ∷ 0 ∷ []) (labelWord ∷ []))
 
-pointing-says : Says pointing pointingState
+pointing-says : LinesSay pointing pointingState
 unfolding computing
 pointing-says = refl
 
 abbrev pointingLayout : ℕ → Layout
-pointingLayout n = layoutWith [] (le 4 n) (labelAt 0x1000 ∷ []) [] [] 0
+pointingLayout n = layoutWith [] (littleEndian 4 n) (labelAt 0x1000 ∷ []) [] [] 0
 
 pub label-word-off : (x : Answer) → Claims pointing (pointingLayout 0x1004) x → Demanded pointing 0 full x → ⊥
 unfolding computing recordedAddress
@@ -188,24 +190,20 @@ label-word-off x c d = by (claim-holds pointing pointingState (pointingLayout 0x
     by : LabelWordHolds (pointingLayout 0x1004) labelWord → ⊥
     by h =
         let e : _≡_ {A = ℕ} 0x1000 (h .address) = some-same (h .known) in
-        let w : le 4 0x1004 ≡ le 4 0x1000 = h .stands ∙ ap (le 4) (sym e) in
+        let w : littleEndian 4 0x1004 ≡ littleEndian 4 0x1000 = h .stands ∙ ap (littleEndian 4) (sym e) in
         let y : _≡_ {A = ℕ} 4 0 = cc in
         omega arith
 
--- ---- `li a0, 5`: words that are blank
+-- ---- `li a0, 5` and `li x0, 5`: a word that is neither lui nor addi, "any other word fails the demand"
 
-abbrev loading : List ℕ
-loading = text "li a0, 5"
+abbrev loading : List ℕ → List ℕ
+loading r = text "li " ++ r ++ text ", 5"
 
-abbrev loadingState : State
-loadingState = stateWith [] [] (ownWith section.Text (record { offset = 0; line = 0; item = some Li; source = piece 0 loading } ∷ []) 1 [] [])
+abbrev loadingState : List ℕ → State
+loadingState r = stateWith [] [] (ownWith section.Text (record { offset = 0; line = 0; item = some Li; source = piece 0 (loading r) } ∷ []) 1 [] [])
 
-loading-says : Says loading loadingState
-unfolding computing
-loading-says = refl
-
-abbrev loadingLayout : ℕ → Layout
-loadingLayout w = layoutWith (w ∷ []) [] [] [] (record { address = 0; line = 0; kind = 1; first = 0; source = piece 0 loading } ∷ []) 0
+abbrev loadingLayout : List ℕ → ℕ → Layout
+loadingLayout r w = layoutWith (w ∷ []) [] [] [] (record { address = 0; line = 0; kind = 1; first = 0; source = piece 0 (loading r) } ∷ []) 0
 
 -- registers that hold zeros
 zeros : Registers (replicate 32 0)
@@ -216,27 +214,51 @@ zeros = record { count = refl; below = λ r. at 32 r }
     at (suc n) zero = omega arith
     at (suc n) (suc r) = at n r
 
-blank-fails : (r v : ℕ) → Leaves (0 ∷ []) r v → ⊥
-blank-fails r v g = by (g (replicate 32 0) zeros .1)
+other-fails : (w : ℕ) (regs after : List ℕ) → isLui w ≡ false → isAddi w ≡ false → run (w ∷ []) regs ≡ done after → ⊥
+other-fails w regs after p q e = by (rw (p, q) at e)
   where
-    by : {after : List ℕ} → failed ≡ done after → ⊥
-    by e = let q : _≡_ {A = ℕ} 0 1 = cc in omega arith
+    by : failed ≡ done after → ⊥
+    by e = let z : _≡_ {A = ℕ} 0 1 = cc in omega arith
 
-pub words-blank : (x : Answer) → Claims loading (loadingLayout 0) x → Demanded loading 0 full x → ⊥
+-- the register that the first operand names
+named : {s ws a b : List ℕ} {says : List ℕ → Option ℤ} {n : ℕ} → pseudoOperands s ≡ a ∷ b ∷ [] → registerOf a ≡ some n → (g : Loads s ws says)
+    → n ≡ g .register
+named {a = a} p q g = some-same (sym q ∙ ap registerOf (first-same (sym p ∙ g .operands)) ∙ g .isRegister)
+  where
+    first-same : {a b c d : List ℕ} → _≡_ {A = List (List ℕ)} (a ∷ b ∷ []) (c ∷ d ∷ []) → a ≡ c
+    first-same e = cc
+
+pub words-other : (w : ℕ) → isLui w ≡ false → isAddi w ≡ false → (x : Answer) → Claims (loading (text "a0")) (loadingLayout (text "a0") w) x
+    → Demanded (loading (text "a0")) 0 full x → ⊥
 unfolding computing
-words-blank x c d = by (h .items .0 .li refl)
+words-other w p q x c d = by (claim-holds (loading a0) (loadingState a0) (loadingLayout a0 w) x refl c d .items .0 .li refl)
   where
-    h : Holds 0 loadingState (loadingLayout 0)
-    h = claim-holds loading loadingState (loadingLayout 0) x loading-says c d
+    a0 : List ℕ
+    a0 = text "a0"
 
-    by : Loads loading (0 ∷ []) (liValue (loadingLayout 0)) → ⊥
+    by : Loads (loading a0) (w ∷ []) (liValue (loadingLayout a0 w)) → ⊥
     by g =
-        let p : text "a0" ≡ g .first = first-same (g .operands) in
-        let e : _≡_ {A = ℕ} 10 (g .register) = some-same (ap registerOf p ∙ g .isRegister) in
-        blank-fails (g .register) _ (g .leaves (omega arith))
-      where
-        first-same : {a b c d : List ℕ} → _≡_ {A = List (List ℕ)} (a ∷ b ∷ []) (c ∷ d ∷ []) → a ≡ c
-        first-same e = cc
+        let e : _≡_ {A = ℕ} 10 (g .register) = named refl refl g in
+        let r = g .loads .leaves (omega arith) (replicate 32 0) zeros in
+        other-fails w (replicate 32 0) (r .0) p q (r .1)
+
+-- x0 is no exception
+pub words-other-x0 : (w : ℕ) → isLui w ≡ false → isAddi w ≡ false → (x : Answer) → Claims (loading (text "x0")) (loadingLayout (text "x0") w) x
+    → Demanded (loading (text "x0")) 0 full x → ⊥
+unfolding computing
+words-other-x0 w p q x c d = by (claim-holds (loading x0) (loadingState x0) (loadingLayout x0 w) x refl c d .items .0 .li refl)
+  where
+    x0 : List ℕ
+    x0 = text "x0"
+
+    by : Loads (loading x0) (w ∷ []) (liValue (loadingLayout x0 w)) → ⊥
+    by g =
+        let e : _≡_ {A = ℕ} 0 (g .register) = named refl refl g in
+        other-fails w (replicate 32 0) (replicate 32 0) p q (g .loads .keeps (sym e) (replicate 32 0) zeros)
+
+-- a blank word, for one
+pub words-blank : (x : Answer) → Claims (loading (text "x0")) (loadingLayout (text "x0") 0) x → Demanded (loading (text "x0")) 0 full x → ⊥
+words-blank = words-other-x0 0 refl refl
 
 -- ---- `a = 5`: a name that another equate, or a label, has too
 
@@ -253,7 +275,7 @@ twice = text "a = 5\na = 6"
 abbrev twiceState : State
 twiceState = stateWith [] (five ∷ equate 6 (text "a") 10 (text "6") 1 ∷ []) noneOwn
 
-twice-says : Says twice twiceState
+twice-says : LinesSay twice twiceState
 unfolding computing
 twice-says = refl
 
@@ -272,7 +294,7 @@ bothState =
     stateWith (record { name = piece 0 (text "a"); place = record { section = section.Text; offset = 0 }; line = 0 } ∷ [])
     (equate 3 (text "a") 7 (text "5") 1 ∷ []) noneOwn
 
-both-says : Says both bothState
+both-says : LinesSay both bothState
 unfolding computing
 both-says = refl
 
@@ -288,7 +310,7 @@ name-of-label x c d = none-some (sym (claim-holds both bothState bothLayout x bo
 abbrev fiveState : State
 fiveState = stateWith [] (five ∷ []) noneOwn
 
-five-says : Says (text "a = 5") fiveState
+five-says : LinesSay (text "a = 5") fiveState
 unfolding computing
 five-says = refl
 

@@ -1,15 +1,15 @@
 -- The table of directives, in the code's columns, against the definition's rows: for any table.
-use Prim.Native.Nat.{ℕ, zero, suc, min, _+_, _*_, _≤_, _<_}
+use Prim.Native.Nat.{ℕ, zero, suc, _+_, _*_, _≤_, _<_}
 use native.Mathlib.Omega.{arith}
 use mathlib.Core.Path.{_≡_, refl, sym, ap, subst, _∙_}
 use mathlib.Core.List.{List, [], _∷_, map}
 use mathlib.Core.Bool.{Bool, true, false, cond, not, _&&_, false≢true}
 use mathlib.Core.Option.{none, some}
-use lib.Dec.{eqb, ltb}
+use lib.Dec.{eqb, ltb, leb}
 use lib.ListN.{length, getD, length-map, List·getD-map}
 use mir.Syntax.{w64}
 use mir.Val.{Fits}
-use borrow.Author.Tests.{eqb-true, ltb-true, ltb-false}
+use borrow.Author.Tests.{eqb-true, ltb-true, ltb-false, leb-true}
 use Rattle.numbers.specs.Text.{text, startsWith}
 use Rattle.numbers.specs.code.Tables.{rows, prefixIn}
 use Rattle.numbers.proofs.Bools.{and-left, and-right}
@@ -28,17 +28,14 @@ use Rattle.layout.specs.code.Rows.{directiveNumber, DirectiveTable, rowC
 
 -- ---- numbers
 
--- the last arm of a match on a number: it is none of those below k
-abbrev pub Others : ℕ → ℕ → Type 0
-Others zero n = Unit
-Others (suc k) n = Others k n × (n ≡ k → ⊥)
+-- the last arm of a match on a number from m on: it is none of the k first
+abbrev pub Others : ℕ → ℕ → ℕ → Type 0
+Others m zero n = Unit
+Others m (suc k) n = Others m k n × (n ≡ m + k → ⊥)
 
-others-above : (k n : ℕ) → Others k n → k ≤ n
-others-above zero n o = omega arith
-others-above (suc k) n o = let h = others-above k n (o .0) in omega (arith, o .1)
-
-pub others-least : (k n : ℕ) → Others k n → k ≡ min n k
-others-least k n o = let h = others-above k n o in omega arith
+pub others-above : (m k n : ℕ) → m ≤ n → Others m k n → m + k ≤ n
+others-above m zero n h o = omega arith
+others-above m (suc k) n h o = let g = others-above m k n h (o .0) in omega (arith, o .1)
 
 -- a directive's number tells it
 abbrev fromNumber : ℕ → Directive
@@ -109,21 +106,22 @@ flag-back : (b : Bool) → not (eqb (cond b 1 0) 0) ≡ b
 flag-back true = refl
 flag-back false = refl
 
--- every number is one that `directive_numbered` tells apart
-abbrev Numbered : List Row → Type 0
-Numbered rs = map (λ r. min (directiveNumber (r .directive)) 11) rs ≡ map (λ r. directiveNumber (r .directive)) rs
+-- every number is one that `directive_numbered` knows
+abbrev DirectivesSmall : List Row → Type 0
+DirectivesSmall rs = map (λ r. leb (directiveNumber (r .directive)) 11) rs ≡ map (λ r. true) rs
 
-pub directives-numbered : Numbered directives
+pub directives-small : DirectivesSmall directives
 unfolding directives
-directives-numbered = refl
+directives-small = refl
 
-number-small : (rs : List Row) (i : ℕ) → Numbered rs → min (directiveNumber (getD rs i noRow .directive)) 11 ≡ directiveNumber (getD rs i noRow .directive)
+number-small : (rs : List Row) (i : ℕ) → DirectivesSmall rs → directiveNumber (getD rs i noRow .directive) ≤ 11
 number-small rs i small =
-    sym (List·getD-map (λ (r : Row). min (directiveNumber (r .directive)) 11) rs i noRow) ∙ ap (λ (l : List ℕ). getD l i 0) small
-    ∙ List·getD-map (λ (r : Row). directiveNumber (r .directive)) rs i noRow
+    leb-true (directiveNumber (getD rs i noRow .directive)) 11
+    (sym (List·getD-map (λ (r : Row). leb (directiveNumber (r .directive)) 11) rs i noRow) ∙ ap (λ (l : List Bool). getD l i true) small
+    ∙ List·getD-map (λ (r : Row). true) rs i noRow)
 
 -- a spelling that is found stands at the statement's start
-pub row-within : (rs : List Row) (s : List ℕ) → Numbered rs → SpelledWithin (rowCode (rowIn rs s)) (length s)
+pub row-within : (rs : List Row) (s : List ℕ) → DirectivesSmall rs → SpelledWithin (rowCode (rowIn rs s)) (length s)
 row-within rs s small = go (ltb place (length rs)) refl
   where
     place : ℕ
@@ -136,11 +134,11 @@ row-within rs s small = go (ltb place (length rs)) refl
     go true e =
         let h = ltb-true place (length rs) e in
         rw (row-some rs s h)
-        (prefix-length (getD rs place noRow .name) s (begins h), number-fits (getD rs place noRow .directive) (omega (arith, number-small rs place small)))
+        (prefix-length (getD rs place noRow .name) s (begins h), number-fits (getD rs place noRow .directive) (number-small rs place small))
     go false e = rw (row-none rs s (ltb-false place (length rs) e)) tt
 
 -- the row that the code finds: none, or one whose columns say what it is
-module _ (rs : List Row) (t s : List ℕ) (table : DirectiveTable rs t) (small : Numbered rs) (i : ℕ) (at : i ≡ prefixIn (rows (length rs) t) s) where
+module _ (rs : List Row) (t s : List ℕ) (table : DirectiveTable rs t) (small : DirectivesSmall rs) (i : ℕ) (at : i ≡ prefixIn (rows (length rs) t) s) where
   placed : i ≡ prefixIn (names rs) s
   placed = rw (table .names) at at
 
@@ -151,34 +149,40 @@ module _ (rs : List Row) (t s : List ℕ) (table : DirectiveTable rs t) (small :
   pub row-past : length rs ≤ i → (spelled.Nothing ≡ rowCode (rowIn rs s)) × SpelledWithin spelled.Nothing (length s)
   row-past h = within spelled.Nothing (rw (row-none rs s (rw placed at h)) refl)
 
-  module _ (h : i < length rs) (d : Directive) (is : directiveNumber d ≡ min (getD t (i * 16 + 14) 0) 11) where
+  module _ (h : i < length rs) where
     abbrev found : Row
     found = getD rs i noRow
 
-    abbrev answer : Spelling
-    answer = record { directive = d; len = getD t (i * 16 + 13) 0; «in_data» = not (eqb (getD t (i * 16 + 15) 0) 0) }
+    number-is : getD t (i * 16 + 14) 0 ≡ directiveNumber (found .directive)
+    number-is = column-of (λ (r : Row). directiveNumber (r .directive)) rs noRow 14 i t (table .kinds) h
 
-    directive-back : d ≡ found .directive
-    directive-back =
-        number-tells d (found .directive)
-        (is ∙ ap (λ (k : ℕ). min k 11) (column-of (λ (r : Row). directiveNumber (r .directive)) rs noRow 14 i t (table .kinds) h) ∙ number-small rs i small)
-        (omega (arith, is))
+    pub directive-few : getD t (i * 16 + 14) 0 ≤ 11
+    directive-few = rw number-is (number-small rs i small)
 
-    length-back : getD t (i * 16 + 13) 0 ≡ length (found .name)
-    length-back = column-of (λ (r : Row). length (r .name)) rs noRow 13 i t (table .lengths) h
+    module _ (d : Directive) (is : directiveNumber d ≡ getD t (i * 16 + 14) 0) where
+      abbrev answer : Spelling
+      answer = record { directive = d; len = getD t (i * 16 + 13) 0; «in_data» = not (eqb (getD t (i * 16 + 15) 0) 0) }
 
-    data-back : not (eqb (getD t (i * 16 + 15) 0) 0) ≡ found .inData
-    data-back = ap (λ (k : ℕ). not (eqb k 0)) (column-of (λ (r : Row). cond (r .inData) 1 0) rs noRow 15 i t (table .dataHas) h) ∙ flag-back (found .inData)
+      directive-back : d ≡ found .directive
+      directive-back = number-tells d (found .directive) (is ∙ number-is) (omega (arith, is, directive-few))
 
-    pub row-here : (spelled.As answer ≡ rowCode (rowIn rs s)) × SpelledWithin (spelled.As answer) (length s)
-    row-here =
-        let row : rowIn rs s ≡ some found = rw placed (row-some rs s (rw placed at h)) in
-        let same : rowCode (some found) ≡ spelled.As answer = rw (directive-back, length-back, data-back) refl in
-        within (spelled.As answer) (sym (ap rowCode row ∙ same))
+      length-back : getD t (i * 16 + 13) 0 ≡ length (found .name)
+      length-back = column-of (λ (r : Row). length (r .name)) rs noRow 13 i t (table .lengths) h
 
-    -- the length of the row's name
-    pub length-fits : Fits w64 (length s) → Fits w64 (getD t (i * 16 + 13) 0)
-    length-fits f = record { fits = omega (arith, row-here .1 .0, f .fits) }
+      data-back : not (eqb (getD t (i * 16 + 15) 0) 0) ≡ found .inData
+      data-back =
+          ap (λ (k : ℕ). not (eqb k 0)) (column-of (λ (r : Row). cond (r .inData) 1 0) rs noRow 15 i t (table .dataHas) h)
+          ∙ flag-back (found .inData)
+
+      pub row-here : (spelled.As answer ≡ rowCode (rowIn rs s)) × SpelledWithin (spelled.As answer) (length s)
+      row-here =
+          let row : rowIn rs s ≡ some found = rw placed (row-some rs s (rw placed at h)) in
+          let same : rowCode (some found) ≡ spelled.As answer = rw (directive-back, length-back, data-back) refl in
+          within (spelled.As answer) (sym (ap rowCode row ∙ same))
+
+      -- the length of the row's name
+      pub length-fits : Fits w64 (length s) → Fits w64 (getD t (i * 16 + 13) 0)
+      length-fits f = record { fits = omega (arith, row-here .1 .0, f .fits) }
 
 -- ---- statements without a dot
 

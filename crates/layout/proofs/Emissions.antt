@@ -28,6 +28,7 @@ use Rattle.encoder.proofs.Fields.{joined-below}
 use Rattle.encoder.proofs.Load.{upper-clear, lower-small}
 use Rattle.layout.specs.declared.pseudo.Pseudo.{Pseudo}
 use Rattle.layout.specs.declared.pseudo.Pseudo.the-variants.{Li, La, Push, Pop, Print, PrintStr, Read, ReadByte, Random}
+use Rattle.layout.specs.Refusals.{isIn, pseudoNumbers}
 use Rattle.layout.specs.Pseudos.{pseudoOperands, liNumber, liWords, reservedWords}
 use Rattle.layout.specs.Expansions.{Expanded, onRegister, oneOperand, twoOperands, onLabel, noRegister, liConstant, onNumber, liLoad, expansion}
 use Rattle.layout.specs.Layouts.{encoded, emission}
@@ -79,7 +80,7 @@ Taken x = Comes (λ _. Unit) (λ _. ⊥) x
 
 -- "18 pseudo operand count, bad register", "19 li operand", "20 label not found"
 abbrev pub PseudoRefusal : ℕ → Type 0
-PseudoRefusal n = (n ≡ 18) ⊎ (n ≡ 19) ⊎ (n ≡ 20)
+PseudoRefusal n = isIn pseudoNumbers n ≡ true
 
 -- one instruction at least, as many as C allows, and the encoder takes them all
 abbrev pub ExpandedFits : (ℕ → Type 0) → Expanded → Type 0
@@ -91,21 +92,21 @@ module _ (C : ℕ → Type 0) where
   on-register a f g = by (registerOf a) refl
     where
       by : (o : Option ℕ) → registerOf a ≡ o → ExpandedFits C (onRegister o f)
-      by none e = inl refl
+      by none e = refl
       by (some n) e = g _ (le-leb n 31 (omega (arith, register-below a n e)))
 
   on-label : (o : Option ℕ) (f : ℕ → Expanded) → ((a : ℕ) → ExpandedFits C (f a)) → ExpandedFits C (onLabel o f)
-  on-label none f g = inr (inr refl)
+  on-label none f g = refl
   on-label (some a) f g = g a
 
   no-register : (o : Option ℕ) (e : Expanded) → ExpandedFits C e → ExpandedFits C (noRegister o e)
   no-register none e g = g
-  no-register (some r) e g = inl refl
+  no-register (some r) e g = refl
 
   one-operand : (ops : List (List ℕ)) (f : List ℕ → Expanded) → ((a : List ℕ) → ExpandedFits C (f a)) → ExpandedFits C (oneOperand ops f)
-  one-operand [] f g = inl refl
+  one-operand [] f g = refl
   one-operand (a ∷ []) f g = g a
-  one-operand (a ∷ b ∷ bs) f g = inl refl
+  one-operand (a ∷ b ∷ bs) f g = refl
 
   one-register : (ops : List (List ℕ)) (f : Register → Expanded) → ((r : Register) → isRegister r ≡ true → ExpandedFits C (f r))
       → ExpandedFits C (oneOperand ops (λ a. onRegister (registerOf a) f))
@@ -117,10 +118,10 @@ module _ (C : ℕ → Type 0) where
 
   two-operands : (ops : List (List ℕ)) (f : List ℕ → List ℕ → Expanded) → ((a b : List ℕ) → ExpandedFits C (f a b))
       → ExpandedFits C (twoOperands ops f)
-  two-operands [] f g = inl refl
-  two-operands (a ∷ []) f g = inl refl
+  two-operands [] f g = refl
+  two-operands (a ∷ []) f g = refl
   two-operands (a ∷ b ∷ []) f g = g a b
-  two-operands (a ∷ b ∷ c ∷ cs) f g = inl refl
+  two-operands (a ∷ b ∷ c ∷ cs) f g = refl
 
   -- li by its two cases: one value where the number is small, else two
   load-fits : (rd : Register) (z : ℤ) → isRegister rd ≡ true → C (liNumber (some z)) → ExpandedFits C (liLoad rd z)
@@ -139,11 +140,11 @@ module _ (C : ℕ → Type 0) where
     where
       last : (z : ℤ) (c : Bool) → C (liNumber (some z)) → ExpandedFits C (cond c (liLoad rd z) (refused 19))
       last z true h = load-fits rd z r h
-      last z false h = inr (inl refl)
+      last z false h = refl
 
       by : (c : Bool) (o : Option ℤ) → C (liNumber o) → ExpandedFits C (cond c (refused 19) (liConstant o (liLoad rd)))
-      by true o h = inr (inl refl)
-      by false none h = inr (inl refl)
+      by true o h = refl
+      by false none h = refl
       by false (some z) h = last z (isSigned32 z) h
 
 -- li's words by what it loads, a number or else an equate
@@ -153,11 +154,11 @@ liLoads const (a ∷ []) = 1
 liLoads const (a ∷ b ∷ bs) = liNumber (orElse (immOf b) (const b))
 
 -- as many as the item reserves, but li's by what it loads
-abbrev pub Sized : (List ℕ → Option ℤ) → Option Pseudo → List ℕ → List (List ℕ) → ℕ → Type 0
-Sized const item s ops n = ((n ≡ reservedWords item s) ⊎ (item ≡ some Li)) × (item ≡ some Li → n ≡ liLoads const ops)
+abbrev pub ItemSized : (List ℕ → Option ℤ) → Option Pseudo → List ℕ → List (List ℕ) → ℕ → Type 0
+ItemSized const item s ops n = ((n ≡ reservedWords item s) ⊎ (item ≡ some Li)) × (item ≡ some Li → n ≡ liLoads const ops)
 
 -- never more than reserved
-few : (const : List ℕ → Option ℤ) (item : Option Pseudo) (s : List ℕ) (n : ℕ) → Sized const item s (pseudoOperands s) n → n ≤ reservedWords item s
+few : (const : List ℕ → Option ℤ) (item : Option Pseudo) (s : List ℕ) (n : ℕ) → ItemSized const item s (pseudoOperands s) n → n ≤ reservedWords item s
 unfolding orElse
 few const item s n h = go (h .0)
   where
@@ -181,21 +182,21 @@ few const item s n h = go (h .0)
 -- the words of an item, and how many
 abbrev pub WordsFit : (List ℕ → Option ℤ) → Option Pseudo → List ℕ → List ℕ → Type 0
 WordsFit const item s ws =
-    (1 ≤ length ws) × (length ws ≤ reservedWords item s) × Each IsWord ws × Sized const item s (pseudoOperands s) (length ws)
+    (1 ≤ length ws) × (length ws ≤ reservedWords item s) × Each IsWord ws × ItemSized const item s (pseudoOperands s) (length ws)
 
 module _ (const : List ℕ → Option ℤ) (label : List ℕ → Option ℕ) where
   abbrev Count : Pseudo → List ℕ → List (List ℕ) → ℕ → Type 0
-  Count p s ops = Sized const (some p) s ops
+  Count p s ops = ItemSized const (some p) s ops
 
   -- each of the nine, of any operands
-  pub expansion-fits : (p : Pseudo) (s : List ℕ) (ops : List (List ℕ)) → ExpandedFits (Sized const (some p) s ops) (expansion const label p ops)
+  pub expansion-fits : (p : Pseudo) (s : List ℕ) (ops : List (List ℕ)) → ExpandedFits (ItemSized const (some p) s ops) (expansion const label p ops)
   unfolding expansion encoded
-  expansion-fits Li s [] = inl refl
-  expansion-fits Li s (a ∷ []) = inl refl
+  expansion-fits Li s [] = refl
+  expansion-fits Li s (a ∷ []) = refl
   expansion-fits Li s (a ∷ b ∷ []) =
       let C = Count Li s (a ∷ b ∷ []) in
       on-register C a _ (λ rd r. number-fits C const rd b (immOf b) r (inr refl, λ e. refl))
-  expansion-fits Li s (a ∷ b ∷ c ∷ cs) = inl refl
+  expansion-fits Li s (a ∷ b ∷ c ∷ cs) = refl
   expansion-fits La s ops =
       let C = Count La s ops in
       two-operands C ops _ (λ a b.
@@ -227,7 +228,7 @@ module _ (const : List ℕ → Option ℤ) (label : List ℕ → Option ℕ) whe
   emission-fits (some p) s = by (expansion const label p (pseudoOperands s)) (expansion-fits p s (pseudoOperands s))
     where
       C : ℕ → Type 0
-      C = Sized const (some p) s (pseudoOperands s)
+      C = ItemSized const (some p) s (pseudoOperands s)
 
       all : (is : List Instruction) (x : Result ℕ (List ℕ)) → 1 ≤ length is → C (length is) → Taken x → Gives (WordEach is) x
           → Comes (WordsFit const (some p) s) PseudoRefusal x

@@ -12,7 +12,7 @@ use Rattle.numbers.specs.Results.{Result, value, refused}
 use Rattle.numbers.specs.code.Spans.{spanned}
 use Rattle.layout.specs.declared.records.ItemRecord.{ItemRecord}
 use Rattle.layout.specs.declared.pseudo.Pseudo.{Pseudo}
-use Rattle.layout.specs.Bytes.{le, put, padded, together}
+use Rattle.layout.specs.Bytes.{littleEndian, put, padded, together}
 use Rattle.layout.specs.Limits.{textLimit, wordLimit, itemLimit, itemSize}
 use Rattle.layout.specs.Pieces.{piece}
 use Rattle.layout.specs.Pseudos.{itemKind, reservedWords}
@@ -23,19 +23,19 @@ use Rattle.layout.specs.Addresses.{addressAt, labelAddress}
 use Rattle.layout.specs.Rounds.{constant}
 use Rattle.layout.specs.declared.addresses.Starts.{Starts}
 use Rattle.layout.specs.code.Fits.{Each, ItemFits, reservedIn}
-use Rattle.layout.specs.code.Emits.{Unemitted, emittedIn, EmitAgrees}
+use Rattle.layout.specs.code.Emits.{Unemitted, emittedIn, EmitLeft}
 use Rattle.layout.specs.code.Steps.{Some, Agrees}
 use Rattle.layout.specs.code.Placed.{PlaceCoded}
 use Rattle.layout.specs.code.Names.{Scope, NamesStand}
-use Rattle.layout.specs.code.Expands.{WordsPut, emissionIn, sourceSpan, ItemFits as RecordFits}
-use Rattle.layout.specs.declared.emit.EmitStep.the-variants as step
+use Rattle.layout.specs.code.Expands.{WordsPut, emissionIn, sourceSpan, ItemRecordFits}
 use Rattle.layout.specs.declared.state.Section.the-variants as section
 use Rattle.layout.specs.code.Stands.{itemSoFar}
 use Rattle.layout.proofs.ByteLaws.{length-put, put-lent, put-pad}
 use Rattle.layout.proofs.TableLaws.{table-set, table-lent, read-four}
 use Rattle.layout.proofs.Gives.{Comes}
+use Rattle.layout.proofs.StepLaws.{Agreed, agreed, agreed-refused}
 use Rattle.layout.proofs.Emissions.{WordsFit, PseudoRefusal, emission-fits}
-use Rattle.layout.proofs.Fields.{kind-small}
+use Rattle.layout.proofs.PseudoLaws.{kind-small}
 
 -- an item before it is emitted, as its record has it
 abbrev pub unemitted : ItemLine → ItemAt
@@ -45,7 +45,7 @@ noItem : ItemAt
 noItem = record { address = 0; line = 0; kind = 0; first = 0; source = piece 0 [] }
 
 row-sized : (x : ItemAt) → length (fieldBytes (itemRow x)) ≡ itemSize
-unfolding fieldBytes le
+unfolding fieldBytes littleEndian
 row-sized x = refl
 
 -- what is emitted, and what is left: ws the words so far, done the items, todo those that are left
@@ -76,7 +76,7 @@ module _ (base : ℕ) (const : List ℕ → Option ℤ) (label : List ℕ → Op
   -- its record, read back
   pub item-read : itemRecordAt b (length done)
       ≡ record { address = x .offset; line = x .line; kind = itemKind (x .item); first = 0; start = x .source .at; len = length (x .source .bytes) }
-  unfolding fieldBytes le
+  unfolding fieldBytes littleEndian
   item-read =
       let f : ItemFits t x = m .fits .0 in
       let k = length done in
@@ -99,15 +99,15 @@ module _ (base : ℕ) (const : List ℕ → Option ℤ) (label : List ℕ → Op
   unfolding spanned
   item-source = m .fits .0 .source .is
 
-  pub emit-refused : (n : ℕ) → refused n ≡ emission const label (x .item) (x .source .bytes)
+  pub emit-refused : (n : ℕ) → emission const label (x .item) (x .source .bytes) ≡ refused n
       → emit base const label xs [] [] ≡ refused (record { number = n; line = x .line })
   unfolding emit
-  emit-refused n e = sym (m .goes) ∙ rw (← e) refl
+  emit-refused n e = sym (m .goes) ∙ rw e refl
 
   -- its words stand behind those before it, and its record has its address and its first word
-  module _ (vs : List ℕ) (e : value vs ≡ emission const label (x .item) (x .source .bytes)) where
+  module _ (vs : List ℕ) (e : emission const label (x .item) (x .source .bytes) ≡ value vs) where
     pub words-reserved : length vs ≤ reservedWords (x .item) (x .source .bytes)
-    words-reserved = subst (λ (r : Result ℕ (List ℕ)). Comes (WordsFit const (x .item) (x .source .bytes)) PseudoRefusal r) (sym e) (emission-fits const label (x .item) (x .source .bytes)) .1
+    words-reserved = subst (λ (r : Result ℕ (List ℕ)). Comes (WordsFit const (x .item) (x .source .bytes)) PseudoRefusal r) e (emission-fits const label (x .item) (x .source .bytes)) .1
 
     pub emit-next : (b′ w′ : List ℕ) → length b′ ≡ length b → length w′ ≡ length w
         → b′ ≡ put (length done * itemSize) (fieldBytes (itemRow (itemAt base x (length ws)))) b → w′ ≡ put (length ws) vs w
@@ -123,7 +123,7 @@ module _ (base : ℕ) (const : List ℕ → Option ℤ) (label : List ℕ → Op
           words = ew ∙ ap (put (length ws) vs) (m .words) ∙ put-pad (length w) (length ws) ws vs refl ∙ ap (λ (n : ℕ). padded n (ws ++ vs)) (sym lw);
           room = omega (arith, m .room, words-reserved, length-append ws vs);
           fits = m .fits .1;
-          goes = sym (rw (← e) refl) ∙ m .goes;
+          goes = sym (rw e refl) ∙ m .goes;
         }
 
 -- ---- from the loop's places
@@ -218,13 +218,13 @@ module _ {t l n : List ℕ} {c : ℕ} {e x : List ℕ} {m : ℕ} {starts : Start
       pub emit-within : at ≤ length w
       emit-within = let q = p .emitting u in omega (arith, q .written, q .emit .room, reserved-room .1, p .words-sized)
 
-      pub emit-ends : count ≤ k → EmitAgrees i w (step.Through at) (emittedIn (u .scope))
+      pub emit-ends : count ≤ k → Agrees (EmitLeft i w) (value at) (emittedIn (u .scope))
       unfolding emit
       emit-ends h = by (p .emitting u .todo) (p .emitting u .emit)
         where
           by : (todo : List ItemLine)
               → Emit (u .scope .base) (constant (u .scope .known)) (labelAddress (u .scope .base) (u .scope .state)) t (itemsIn (u .scope)) (p .emitting u .done) todo (p .emitting u .ws) i w
-              → EmitAgrees i w (step.Through at) (emittedIn (u .scope))
+              → Agrees (EmitLeft i w) (value at) (emittedIn (u .scope))
           by [] v = rw (← v .goes) (record { counted = p .emitting u .written; words = v .words; items = v .rows ∙ rw (append-nil (p .emitting u .done)) refl })
           by (y ∷ ys) v = absurd (omega (arith, v .counted, p .emitting u .place, u .items .counted, h))
 
@@ -250,9 +250,9 @@ module _ {t l n : List ℕ} {c : ℕ} {e x : List ℕ} {m : ℕ} {starts : Start
           source-is = let h = current in ap (λ (q : ItemRecord). spanned t (sourceSpan q)) item-is ∙ item-source _ _ _ t _ (h .done) (h .one) (h .rest) (h .ws) i w (h .emit)
 
           -- what emitting it asks
-          pub emit-fits : (n : ℕ) → n ≡ length w - at → Some (RecordFits t n r)
+          pub item-record-fits : (n : ℕ) → n ≡ length w - at → Some (ItemRecordFits t n r)
           unfolding reservedIn
-          emit-fits n size =
+          item-record-fits n size =
               let h = current in
               record {
                 it = h .one .item;
@@ -284,27 +284,24 @@ module _ {t l n : List ℕ} {c : ℕ} {e x : List ℕ} {m : ℕ} {starts : Start
             told : (a : Result ℕ ℕ) → Emitted-so d d′ a → Agrees (WordsPut d d′) a (emissionIn (u .scope) (current .one .item) (current .one .source .bytes))
             told a f = rw source-is at (f (u .scope) (u .names) (current .one .item) (ap (λ (q : ItemRecord). q .kind) item-is))
 
-            pub emit-stops : (number : ℕ) → Emitted-so d d′ (refused number) → (i′ w′ : List ℕ) → EmitAgrees i′ w′ (step.Refused number (r .line)) (emittedIn (u .scope))
-            emit-stops number f i′ w′ = by (emissionIn (u .scope) (current .one .item) (current .one .source .bytes)) refl (told (refused number) f)
-              where
-                by : (o : Result ℕ (List ℕ)) → o ≡ emissionIn (u .scope) (current .one .item) (current .one .source .bytes) → Agrees (WordsPut d d′) (refused number) o
-                    → EmitAgrees i′ w′ (step.Refused number (r .line)) (emittedIn (u .scope))
-                by (value vs) q b = absurd b
-                by (refused o) q b =
-                    let h = current in
-                    rw (emit-refused _ _ _ t _ (h .done) (h .one) (h .rest) (h .ws) i w (h .emit) o q) (b, ap (λ (z : ItemRecord). z .line) item-is)
+            pub emit-stops : (number : ℕ) → Emitted-so d d′ (refused number) → (i′ w′ : List ℕ)
+                → Agrees (EmitLeft i′ w′) (refused (record { number = number; line = r .line })) (emittedIn (u .scope))
+            emit-stops number f i′ w′ =
+                let h = current in
+                let e = agreed-refused (WordsPut d d′) number (emissionIn (u .scope) (h .one .item) (h .one .source .bytes)) (told (refused number) f) in
+                rw (emit-refused _ _ _ t _ (h .done) (h .one) (h .rest) (h .ws) i w (h .emit) number e) (λ j. record { number = number; line = item-is j .line })
+
+            -- the words that it emits
+            emitted : (n : ℕ) → Emitted-so d d′ (value n) → Agreed (WordsPut d d′) n (emissionIn (u .scope) (current .one .item) (current .one .source .bytes))
+            emitted n f = agreed (WordsPut d d′) n (emissionIn (u .scope) (current .one .item) (current .one .source .bytes)) (told (value n) f)
 
             pub emit-more : (more-words : ℕ) → Emitted-so d d′ (value more-words) → (at + more-words ≤ wordLimit) × (at + more-words ≤ length w)
             unfolding reservedIn
-            emit-more n f = by (emissionIn (u .scope) (current .one .item) (current .one .source .bytes)) refl (told (value n) f)
-              where
-                by : (o : Result ℕ (List ℕ)) → o ≡ emissionIn (u .scope) (current .one .item) (current .one .source .bytes) → Agrees (WordsPut d d′) (value n) o
-                    → (at + n ≤ wordLimit) × (at + n ≤ length w)
-                by (refused o) q b = absurd b
-                by (value vs) q b =
-                    let h = current in
-                    let few = words-reserved _ _ _ t _ (h .done) (h .one) (h .rest) (h .ws) i w (h .emit) vs q in
-                    (omega (arith, b .counted, few, h .written, h .emit .room, reserved-room .0), omega (arith, b .counted, few, h .written, h .emit .room, reserved-room .1, p .words-sized))
+            emit-more n f =
+                let h = current in
+                let b = emitted n f in
+                let few = words-reserved _ _ _ t _ (h .done) (h .one) (h .rest) (h .ws) i w (h .emit) (b .it) (b .is) in
+                (omega (arith, b .stands .counted, few, h .written, h .emit .room, reserved-room .0), omega (arith, b .stands .counted, few, h .written, h .emit .room, reserved-room .1, p .words-sized))
 
             pub emit-goes : (at′ : ℕ) → Emitted-so d d′ (value at′) → d ≡ take (length w - at) (drop at w)
                 → (a : ℕ) → ((q : PlaceCoded starts (r .address)) → a ≡ addressAt (q .base) (q .state) (q .place))
@@ -312,25 +309,23 @@ module _ {t l n : List ℕ} {c : ℕ} {e x : List ℕ} {m : ℕ} {starts : Start
                 → i′ ≡ put (k * itemSize) (fieldBytes (itemFields (record { address = a; line = r .line; kind = r .kind; first = at; start = r .start; len = r .len }))) i
                 → EmittingIn (u .scope) t i′ (take at w ++ (d′ ++ drop (length w - at) (drop at w))) (k + 1) (at + at′)
             unfolding emit-coded
-            emit-goes n f part a coded i′ sized is = by (emissionIn (u .scope) (current .one .item) (current .one .source .bytes)) refl (told (value n) f)
-              where
-                by : (o : Result ℕ (List ℕ)) → o ≡ emissionIn (u .scope) (current .one .item) (current .one .source .bytes) → Agrees (WordsPut d d′) (value n) o
-                    → EmittingIn (u .scope) t i′ (take at w ++ (d′ ++ drop (length w - at) (drop at w))) (k + 1) (at + n)
-                by (refused o) q b = absurd b
-                by (value vs) q b =
-                    let h = current in
-                    let fits = emit-more n f .1 in
-                    let w′ = put-lent at n vs w d′ (sym (b .counted)) fits (b .put ∙ ap (λ (y : List ℕ). vs ++ drop n y) part) in
-                    let row = is ∙ ap (λ (y : ItemRecord). put (k * itemSize) (fieldBytes (itemFields (record { address = a; line = y .line; kind = y .kind; first = at; start = y .start; len = y .len }))) i) item-is
-                    ∙ ap (λ (y : ℕ). put (k * itemSize) (fieldBytes (itemRow (record { address = y; line = h .one .line; kind = itemKind (h .one .item); first = at; source = h .one .source }))) i) (coded emit-coded) in
-                    record {
-                      done = h .done ++ itemAt (u .scope .base) (h .one) (length (h .ws)) ∷ [];
-                      todo = h .rest;
-                      ws = h .ws ++ vs;
-                      place = omega (arith, h .place, length-append (h .done) (itemAt (u .scope .base) (h .one) (length (h .ws)) ∷ []));
-                      written = omega (arith, h .written, b .counted, length-append (h .ws) vs);
-                      emit = emit-next _ _ _ t _ (h .done) (h .one) (h .rest) (h .ws) i w (h .emit) vs q i′ _ sized
-                          (ap length w′ ∙ length-put at vs w (omega (arith, fits, b .counted)))
-                          (row ∙ ap₂ (λ (y z : ℕ). put (y * itemSize) (fieldBytes (itemRow (itemAt (u .scope .base) (h .one) z))) i) (h .place) (h .written))
-                          (w′ ∙ ap (λ (y : ℕ). put y vs w) (h .written));
-                    }
+            emit-goes n f part a coded i′ sized is =
+                let h = current in
+                let e = emitted n f in
+                let vs = e .it in
+                let b = e .stands in
+                let fits = emit-more n f .1 in
+                let w′ = put-lent at n vs w d′ (sym (b .counted)) fits (b .put ∙ ap (λ (y : List ℕ). vs ++ drop n y) part) in
+                let row = is ∙ ap (λ (y : ItemRecord). put (k * itemSize) (fieldBytes (itemFields (record { address = a; line = y .line; kind = y .kind; first = at; start = y .start; len = y .len }))) i) item-is
+                ∙ ap (λ (y : ℕ). put (k * itemSize) (fieldBytes (itemRow (record { address = y; line = h .one .line; kind = itemKind (h .one .item); first = at; source = h .one .source }))) i) (coded emit-coded) in
+                record {
+                  done = h .done ++ itemAt (u .scope .base) (h .one) (length (h .ws)) ∷ [];
+                  todo = h .rest;
+                  ws = h .ws ++ vs;
+                  place = omega (arith, h .place, length-append (h .done) (itemAt (u .scope .base) (h .one) (length (h .ws)) ∷ []));
+                  written = omega (arith, h .written, b .counted, length-append (h .ws) vs);
+                  emit = emit-next _ _ _ t _ (h .done) (h .one) (h .rest) (h .ws) i w (h .emit) vs (e .is) i′ _ sized
+                      (ap length w′ ∙ length-put at vs w (omega (arith, fits, b .counted)))
+                      (row ∙ ap₂ (λ (y z : ℕ). put (y * itemSize) (fieldBytes (itemRow (itemAt (u .scope .base) (h .one) z))) i) (h .place) (h .written))
+                      (w′ ∙ ap (λ (y : ℕ). put y vs w) (h .written));
+                }

@@ -19,7 +19,7 @@ use Rattle.layout.specs.Rounds.{Known, pendingEquate, turn, Turns, turns
 use Rattle.layout.specs.Rounds.{unresolved, rounds}
 use Rattle.layout.specs.Layouts.{resolve}
 use Rattle.layout.proofs.Gives.{Comes}
-use Rattle.layout.proofs.RoundHistory.{pending-all, Steps, steps-fewer}
+use Rattle.layout.proofs.RoundHistory.{pending-all, RoundTurns, steps-fewer}
 use Rattle.layout.proofs.ResolveLaws.{TurnRefused, PassIs, pass-is}
 
 -- ---- rounds
@@ -41,7 +41,7 @@ module _ (base : ℕ) (σ : State) where
   rounds-fuel (suc a) zero r ks n h i = absurd (omega arith)
   rounds-fuel (suc a) (suc b) r ks n h i = by (eqb (pendingCount ks) 0) (pass base σ r [] ks n) (pass-is base σ r [] ks n) (rounds-fuel a b (suc r))
     where
-      last : (x : Turns) (c : Bool) → eqb (pendingCount (x .known)) (pendingCount ks) ≡ c → Steps (turn base σ) r [] ks (x .known)
+      last : (x : Turns) (c : Bool) → eqb (pendingCount (x .known)) (pendingCount ks) ≡ c → RoundTurns (turn base σ) r [] ks (x .known)
           → (pendingCount (x .known) < a → pendingCount (x .known) < b
           → rounds base σ a (suc r) (x .known) (x .evaluations) ≡ rounds base σ b (suc r) (x .known) (x .evaluations))
           → _≡_ {A = Result Refusal Turns}

@@ -12,7 +12,7 @@ use Rattle.layout.specs.declared.line.EquateParts.{EquateParts}
 use Rattle.layout.specs.declared.state.Place.{Place}
 use Rattle.layout.specs.declared.records.EquateRecord.{EquateRecord}
 use Rattle.layout.specs.declared.records.ExprRecord.{ExprRecord}
-use Rattle.layout.specs.Bytes.{le, put}
+use Rattle.layout.specs.Bytes.{littleEndian, put}
 use Rattle.layout.specs.Limits.{equateSize}
 use Rattle.layout.specs.Records.{fieldBytes, equateFields}
 use Rattle.layout.specs.State.{Equate}
@@ -28,11 +28,11 @@ use Rattle.layout.proofs.SpanLaws.{within-size, within-inside}
 use Rattle.layout.proofs.Kept.{add-equate-fits}
 
 equate-sized : (e : Equate) → length (fieldBytes (equateSoFar e)) ≡ equateSize
-unfolding fieldBytes le
+unfolding fieldBytes littleEndian
 equate-sized e = refl
 
 expr-sized : (e : Equate) → length (fieldBytes (exprSoFar e)) ≡ exprSize
-unfolding fieldBytes le
+unfolding fieldBytes littleEndian
 expr-sized e = refl
 
 -- the code's records of an equate

@@ -16,11 +16,12 @@ use Rattle.layout.specs.Rounds.{Found, Known, orElse, foundValue, consta
 use Rattle.layout.specs.Layouts.{EquateAt, Layout, consFound, foundEquates}
 use Rattle.layout.specs.Demands.{recordedValue, recordedAddress, finalValue, EquateHolds, OneByOne}
 use Rattle.layout.specs.code.Fits.{Each}
+use Rattle.layout.specs.code.Names.{knownName}
 use Rattle.layout.proofs.SumLaws.{sum-more}
 use Rattle.layout.proofs.StageOrder.{Apart}
 use Rattle.layout.proofs.RoundHistory.{History, IsFound}
-use Rattle.layout.proofs.RoundLaws.{knownName, recordOf, here-at, found-free, round-lawful, unshared, not-itself}
-use Rattle.layout.proofs.ResolveLaws.{no-address, placeOf, own-evaluator, sum-final}
+use Rattle.layout.proofs.RoundLaws.{equateRecordOf, here-at, found-free, round-lawful, unshared, not-itself}
+use Rattle.layout.proofs.ResolveLaws.{no-label-address, ownAddressOf, own-evaluator, sum-final}
 
 -- ---- equates looked up
 
@@ -110,15 +111,15 @@ module _ (base : ℕ) (σ : State) where
 -- ---- each equate
 
 found-last : (done : List Known) (k : Known) (f : Found) → k .found ≡ some f
-    → foundEquates (done ++ k ∷ []) ≡ foundEquates done ++ recordOf k f ∷ []
+    → foundEquates (done ++ k ∷ []) ≡ foundEquates done ++ equateRecordOf k f ∷ []
 unfolding foundEquates
 found-last [] k f e = rw e refl
 found-last (d ∷ done) k f e = by (d .found) (found-last done k f e)
   where
-    by : (o : Option Found) → foundEquates (done ++ k ∷ []) ≡ foundEquates done ++ recordOf k f ∷ []
-        → consFound d o (foundEquates (done ++ k ∷ [])) ≡ consFound d o (foundEquates done) ++ recordOf k f ∷ []
+    by : (o : Option Found) → foundEquates (done ++ k ∷ []) ≡ foundEquates done ++ equateRecordOf k f ∷ []
+        → consFound d o (foundEquates (done ++ k ∷ [])) ≡ consFound d o (foundEquates done) ++ equateRecordOf k f ∷ []
     by none h = h
-    by (some g) h = ap (λ rs. recordOf d g ∷ rs) h
+    by (some g) h = ap (λ rs. equateRecordOf d g ∷ rs) h
 
 module _ (base : ℕ) (σ : State) (R : ℕ) (F : List Known) (H : History (turn base σ) R F) (all : Each IsFound F)
     (l : Layout) (equates : l .equates ≡ foundEquates F) (labels : (n : List ℕ) → recordedAddress (l .labels) n ≡ labelAddress base σ n) where
@@ -127,7 +128,7 @@ module _ (base : ℕ) (σ : State) (R : ℕ) (F : List Known) (H : History (turn
       ap₂ orElse (ap (λ (rs : List EquateAt). recordedValue rs n) equates ∙ value-recorded F n) (ap asNumber (labels n)) ∙ e
 
   equate-holds : (done : List Known) (k : Known) (ks : List Known) → F ≡ done ++ k ∷ ks → (f : Found) → k .found ≡ some f
-      → EquateHolds base σ l (k .equate) (foundEquates done) (recordOf k f) (foundEquates ks)
+      → EquateHolds base σ l (k .equate) (foundEquates done) (equateRecordOf k f) (foundEquates ks)
   equate-holds done k ks are f is =
       let E = own-evaluator base σ in
       let at = here-at σ (turn base σ) E R F H done k ks are f is in
@@ -137,9 +138,9 @@ module _ (base : ℕ) (σ : State) (R : ℕ) (F : List Known) (H : History (turn
         line = refl;
         terms = s .0;
         wellFormed = s .1;
-        value = sum-more (look base σ F) (finalValue l) (placeOf base σ (k .equate)) final (s .0) (f .value) (s .2);
+        value = sum-more (look base σ F) (finalValue l) (ownAddressOf base σ (k .equate)) final (s .0) (f .value) (s .2);
         unshared = unshared σ (turn base σ) E R F H done k ks are f is;
-        noLabel = labels (knownName k) ∙ no-address base σ (σ .labels) (knownName k) (found-free σ (turn base σ) E R F H f at is .noLabel);
+        noLabel = labels (knownName k) ∙ no-label-address base σ (σ .labels) (knownName k) (found-free σ (turn base σ) E R F H f at is .noLabel);
         round = round-lawful σ (turn base σ) E R F H done k ks are f is;
         notItself = not-itself σ (turn base σ) E R F H done k ks are f is;
       }

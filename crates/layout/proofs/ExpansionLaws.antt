@@ -1,9 +1,9 @@
 -- Expansions: a pseudo's operands one after the other, and what follows from the answers that they are read by.
-use Prim.Native.Nat.{ℕ, _-_}
+use Prim.Native.Nat.{ℕ, suc, _-_}
 use native.Mathlib.Omega.{arith}
 use mathlib.Core.Path.{_≡_, refl, sym, ap, _∙_}
 use mathlib.Core.List.{List, [], _∷_, map}
-use mathlib.Core.Bool.{Bool, true, false}
+use mathlib.Core.Bool.{Bool, true, false, cond, _||_}
 use mathlib.Core.Option.{Option}
 use lib.IntN.{ℤ}
 use lib.ListN.{length, take, drop}
@@ -23,8 +23,7 @@ use Rattle.numbers.specs.code.Spans.{spanned}
 use Rattle.numbers.specs.code.Cursors.{itemOperandsFrom, itemOperandAt}
 use Rattle.numbers.proofs.Trims.{tail}
 use Rattle.numbers.proofs.Parts.{items-spaced, item-step, item-end, items-all}
-use Rattle.numbers.proofs.Spaced.{spaced-other}
-use Rattle.numbers.proofs.SpacedNumbers.{register-spaced}
+use Rattle.numbers.proofs.SpacedNumbers.{hasSpace, register-spaced}
 use Rattle.layout.specs.declared.pseudo.Pseudo.{Pseudo}
 use Rattle.layout.specs.declared.addresses.Address.{Address}
 use Rattle.layout.specs.declared.addresses.Address.the-variants as address
@@ -37,7 +36,7 @@ use Rattle.layout.specs.declared.expansions.Target.the-variants as targe
 use Rattle.layout.specs.Bytes.{countBefore}
 use Rattle.layout.specs.Pseudos.{pseudoOperands}
 use Rattle.layout.specs.Expansions.{Expanded, onRegister, onLabel, onNumber, expansion}
-use Rattle.layout.specs.code.Placed.{addressOf}
+use Rattle.layout.specs.code.Placed.{addressFound}
 use Rattle.layout.specs.code.Expands.{spacedOperands, onlyThen, loadThen, targetThen, immThen}
 
 -- ---- operands
@@ -60,15 +59,16 @@ module _ (t : List ℕ) where
 pub register-read : (s b : List ℕ) (r : Reg) → registerNumber r ≡ registerOf b → b ≡ s → registerOf (oneSpaced s) ≡ registerNumber r
 register-read s b r e f = register-spaced s ∙ ap registerOf (sym f) ∙ sym e
 
--- an operand without white space stands as it is
-pub unspaced : (s : List ℕ) → countBefore isSpace s ≡ length s → oneSpaced s ≡ s
-unfolding oneSpaced countBefore
-unspaced [] e = refl
-unspaced (x ∷ xs) e = go (isSpace x) refl (unspaced xs)
+-- a text that is one word has no white space
+pub no-space : (s : List ℕ) → countBefore isSpace s ≡ length s → hasSpace s ≡ false
+unfolding countBefore hasSpace
+no-space [] e = refl
+no-space (x ∷ xs) e = go (isSpace x) (no-space xs) e
   where
-    go : (t : Bool) → isSpace x ≡ t → (countBefore isSpace xs ≡ length xs → oneSpaced xs ≡ xs) → oneSpaced (x ∷ xs) ≡ x ∷ xs
-    go true h f = absurd (omega (arith, rw h at e))
-    go false h f = spaced-other x xs h ∙ ap (λ (ys : List ℕ). x ∷ ys) (f (omega (arith, rw h at e)))
+    go : (t : Bool) → (countBefore isSpace xs ≡ length xs → hasSpace xs ≡ false) → cond t 0 (suc (countBefore isSpace xs)) ≡ suc (length xs)
+        → t || hasSpace xs ≡ false
+    go true ih q = absurd (omega arith)
+    go false ih q = ih (omega arith)
 
 -- ---- a source
 
@@ -112,7 +112,7 @@ module _ (r : Target) (f : ℕ → Expanded) (x : Expanded) (e : targetThen r f 
   target-at a h = rw h at e
 
 -- a label's address by an operand where it stands
-module _ (s b : List ℕ) (look : List ℕ → Option ℕ) (r : Address) (e : addressOf r ≡ look (oneSpaced b)) (g : b ≡ s) (f : ℕ → Expanded) where
+module _ (s b : List ℕ) (look : List ℕ → Option ℕ) (r : Address) (e : addressFound r ≡ look (oneSpaced b)) (g : b ≡ s) (f : ℕ → Expanded) where
   pub label-none : r ≡ address.Nothing → refused 20 ≡ onLabel (look (oneSpaced s)) f
   label-none h = rw (← g, ← e, h) refl
 

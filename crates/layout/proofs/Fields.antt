@@ -1,10 +1,10 @@
 -- Every field of a record fits its bytes, every count its limit and what is lent, so that each buffer keeps the length that was lent.
-use Prim.Native.Nat.{ℕ, suc, _+_, _-_, _*_, _^_, min, _≤_, _<_}
+use Prim.Native.Nat.{ℕ, suc, _+_, _-_, _^_, min, _≤_, _<_}
 use mathlib.Core.Path.{_≡_, refl, sym, _∙_, ap}
 use mathlib.Core.List.{List, [], _∷_, _++_, map, List·Permᴰ}
 use mathlib.Core.Bool.{Bool, true, false, cond, not}
 use mathlib.Core.Option.{Option, none, some}
-use native.Mathlib.Nat.{zero-add, zero-mul, suc-mul}
+use native.Mathlib.Nat.{zero-add}
 use native.Mathlib.Omega.{arith}
 use lib.Dec.{ltb, leb, eqb}
 use lib.IntN.{ℤ, pos, negsuc, _+ℤ_}
@@ -17,21 +17,18 @@ use Rattle.numbers.proofs.Readings.{fit-in64}
 use Rattle.layout.specs.declared.state.Section.{Section}
 use Rattle.layout.specs.declared.state.Section.the-variants as section
 use Rattle.layout.specs.declared.state.Place.{Place}
-use Rattle.layout.specs.declared.pseudo.Pseudo.{Pseudo}
-use Rattle.layout.specs.declared.pseudo.Pseudo.the-variants.{Li, La, Push, Pop, Print, PrintStr, Read, ReadByte, Random}
-use Rattle.layout.specs.Bytes.{le, together}
+use Rattle.layout.specs.Bytes.{littleEndian}
 use Rattle.layout.specs.Pieces.{lines, linePieces}
 use Rattle.layout.specs.Refusals.{Refusal, atLine}
 use Rattle.layout.specs.Limits.{baseLimit, textLimit, bssLimit, dataLimit, labelSize, equateSize, itemSize, Lent, roomOf}
 use Rattle.layout.specs.Statements.{exprText}
-use Rattle.layout.specs.Pseudos.{itemKind}
 use Rattle.layout.specs.State.{Label, Equate, ItemLine, LabelWord, State, start}
 use Rattle.layout.specs.Stage.{isLabel, lineStage}
 use Rattle.layout.specs.Addresses.{placed, ordered, addressAt, sectionStart, labelAddress, fillOne, fill}
 use Rattle.layout.specs.Expressions.{Token, plus, minus, dot, number, name, unreadable, tokens, anyUnreadable, Evaluated, positive, negative}
 use Rattle.layout.specs.Expressions.{Wanted, term, joint, onFit, addTerm, onName, sumFrom, evaluate}
 use Rattle.layout.specs.Rounds.{Found, Known, constant, look, isSome, turn, Turns}
-use Rattle.layout.specs.Records.{Field, fieldBytes, tableOf}
+use Rattle.layout.specs.Records.{RecordField, fieldBytes}
 use Rattle.layout.specs.Layouts.{EquateAt, ItemAt, Layout, emission, Emitted, itemAt, emit, foundEquates, refuseIf, checkBytes}
 use Rattle.layout.specs.Layouts.{resolve, layout, afterLines, layoutOf, labelRow, equateRow, itemRow, Counts, Buffers, Answer, answerOf, callOf}
 use Rattle.layout.specs.Chains.{Among}
@@ -40,9 +37,11 @@ use Rattle.layout.specs.code.Fits.{Each, Inside, LabelFits, EquateFits, 
 use Rattle.layout.specs.code.Orders.{LabelAtFits}
 use Rattle.layout.proofs.Each.{_and_, each-append, each-weaker, each-map, each-mapped}
 use Rattle.layout.proofs.Gives.{Comes, comes-so, and-then-comes}
-use Rattle.layout.proofs.ByteLaws.{length-le, length-put, length-padded}
+use Rattle.layout.proofs.ByteLaws.{length-little-endian, length-put, length-padded}
+use Rattle.layout.proofs.TableLaws.{table-length}
 use Rattle.layout.proofs.Emissions.{IsWord, WordsFit, PseudoRefusal, emission-fits}
 use Rattle.layout.proofs.Kept.{stage-fits}
+use Rattle.layout.proofs.PseudoLaws.{kind-small}
 use Rattle.layout.proofs.OrderLaws.{ordered-permutes, permuted-length, permuted-each}
 use Rattle.layout.proofs.RoundHistory.{At, each-of, of-each, shown, triangle, ToldFound, AllFound, IsFound, none-pending}
 use Rattle.layout.proofs.ChainLaws.{among-at, among-each, first-left}
@@ -127,18 +126,6 @@ pub record ItemAtFits (t : List ℕ) (n : ℕ) (i : ItemAt) : Type 0 where
   pub first : i .first < n
   pub source : Inside t (i .source)
 
-pub kind-small : (o : Option Pseudo) → itemKind o ≤ 9
-kind-small none = omega arith
-kind-small (some Li) = omega arith
-kind-small (some La) = omega arith
-kind-small (some Push) = omega arith
-kind-small (some Pop) = omega arith
-kind-small (some Print) = omega arith
-kind-small (some PrintStr) = omega arith
-kind-small (some Read) = omega arith
-kind-small (some ReadByte) = omega arith
-kind-small (some Random) = omega arith
-
 module _ (t : List ℕ) where
   -- a refusal at a line of the text
   abbrev pub InText : Refusal → Type 0
@@ -155,10 +142,10 @@ module _ (t : List ℕ) where
     where
       by : (o : Option ℕ) → Comes (λ bs. length bs ≡ n) InText (atLine (w .line) (fillOne o w bytes))
       by none = g .0 .line
-      by (some a) = length-put (w .at) (le 4 a) bytes (omega (arith, length-le 4 a, e, g .0 .place)) ∙ e
+      by (some a) = length-put (w .at) (littleEndian 4 a) bytes (omega (arith, length-little-endian 4 a, e, g .0 .place)) ∙ e
 
   -- the items' words and records, where ws and is were there before
-  pub record Emits (xs : List ItemLine) (ws : List ℕ) (is : List ItemAt) (x : Emitted) : Type 0 where
+  pub record EmitsFit (xs : List ItemLine) (ws : List ℕ) (is : List ItemAt) (x : Emitted) : Type 0 where
     pub few : length (x .words) ≤ length ws + reservedIn xs
     pub words : Each IsWord (x .words)
     pub count : length (x .items) ≡ length is + length xs
@@ -166,14 +153,14 @@ module _ (t : List ℕ) where
 
   module _ (base : ℕ) (low : base ≤ baseLimit) (const : List ℕ → Option ℤ) (label : List ℕ → Option ℕ) where
     pub emit-fits : (xs : List ItemLine) (ws : List ℕ) (is : List ItemAt) → Each (ItemFits t) xs → Each IsWord ws
-        → Each (ItemAtFits t (length ws)) is → Comes (Emits xs ws is) InText (emit base const label xs ws is)
+        → Each (ItemAtFits t (length ws)) is → Comes (EmitsFit xs ws is) InText (emit base const label xs ws is)
     unfolding emit reservedIn
     emit-fits [] ws is g h i = record { few = omega arith; words = h; count = omega arith; items = i }
     emit-fits (x ∷ xs) ws is g h i =
-        and-then-comes (WordsFit const (x .item) s) (Emits (x ∷ xs) ws is) InText (atLine (x .line) (emission const label (x .item) s))
+        and-then-comes (WordsFit const (x .item) s) (EmitsFit (x ∷ xs) ws is) InText (atLine (x .line) (emission const label (x .item) s))
         (λ vs. emit base const label xs (ws ++ vs) is′)
         (line-fits (emission const label (x .item) s) (emission-fits const label (x .item) s))
-        (λ vs f. comes-so (Emits xs (ws ++ vs) is′) (Emits (x ∷ xs) ws is) InText InText (more vs f) (λ r q. q)
+        (λ vs f. comes-so (EmitsFit xs (ws ++ vs) is′) (EmitsFit (x ∷ xs) ws is) InText InText (more vs f) (λ r q. q)
         (emit base const label xs (ws ++ vs) is′) (emit-fits xs (ws ++ vs) is′ (g .1) (each-append IsWord ws vs h (f .2)) (each vs f)))
       where
         s : List ℕ
@@ -212,7 +199,7 @@ module _ (t : List ℕ) where
               tt,
             )
 
-        more : (vs : List ℕ) → WordsFit const (x .item) s vs → (z : Emitted) → Emits xs (ws ++ vs) is′ z → Emits (x ∷ xs) ws is z
+        more : (vs : List ℕ) → WordsFit const (x .item) s vs → (z : Emitted) → EmitsFit xs (ws ++ vs) is′ z → EmitsFit (x ∷ xs) ws is z
         more vs f z q =
             record {
               few = omega (arith, q .few, length-append ws vs, f .1);
@@ -307,7 +294,7 @@ module _ (t : List ℕ) (short : length t ≤ textLimit) (base : ℕ) (low : bas
 
     accepted-fits : (bytes : List ℕ) → length bytes ≡ length (σ .rest .own .stored .bytes)
         → (x : Turns) → AllFound (turn base σ) (σ .rest .equates) (x .known) (x .evaluations)
-        → (e : Emitted) → Emits t (σ .rest .own .items .list) [] [] e → LayoutFits t k (layout base σ bytes x e)
+        → (e : Emitted) → EmitsFit t (σ .rest .own .items .list) [] [] e → LayoutFits t k (layout base σ bytes x e)
     accepted-fits bytes b x d e g =
         record {
           text = short;
@@ -361,7 +348,7 @@ module _ (t : List ℕ) (short : length t ≤ textLimit) (base : ℕ) (low : bas
         (fill-fits t label (own .stored .labelWords) n (own .stored .bytes) refl (f .rest .own .stored .each)) (λ bytes b.
         and-then-comes Found-all (LayoutFits t k) (InText t) (resolve base σ es) (λ x. andThen (emitting x) (λ e. value (all bytes x e)))
         (comes-so Found-all Found-all (RoundsRefused base σ es) (InText t) (λ x d. d) rounds-line (resolve base σ es) (all-end base σ es)) (λ x d.
-        and-then-comes (Emits t (own .items .list) [] []) (LayoutFits t k) (InText t) (emitting x) (λ e. value (all bytes x e))
+        and-then-comes (EmitsFit t (own .items .list) [] []) (LayoutFits t k) (InText t) (emitting x) (λ e. value (all bytes x e))
         (emit-fits t base low (constant (x .known)) label (own .items .list) [] [] (f .rest .own .items .each) tt tt)
         (accepted-fits bytes b x d)))
 
@@ -415,7 +402,7 @@ layout-fits t base k =
 -- ---- the records' fields
 
 -- a field's number fits its bytes
-abbrev pub FieldsFit : List Field → Type 0
+abbrev pub FieldsFit : List RecordField → Type 0
 FieldsFit fs = Each (λ f. f .number < 256 ^ f .width) fs
 
 -- a value of 64 signed bits fits eight bytes
@@ -478,20 +465,9 @@ pub record AnswerFits (t : List ℕ) (k : Lent) (a : Answer) : Type 0 where
   pub counts : CountsFit k (a .counts)
   pub buffers : BuffersFit k (a .buffers)
 
--- records of one size
-table-length : {A : Type 0} (size n : ℕ) (f : A → List Field) → ((x : A) → length (fieldBytes (f x)) ≡ n) → (xs : List A) → length xs * n ≤ size
-    → length (tableOf size f xs) ≡ size
-unfolding together
-table-length {A} size n f h xs g = length-padded size (together (map (λ x. fieldBytes (f x)) xs)) (omega (arith, whole xs))
-  where
-    whole : (xs : List A) → length (together (map (λ x. fieldBytes (f x)) xs)) ≡ length xs * n
-    whole [] = sym (zero-mul n)
-    whole (x ∷ xs) =
-        rw (length-append (fieldBytes (f x)) (together (map (λ x. fieldBytes (f x)) xs)), h x, whole xs, suc-mul (length xs) n) (omega arith)
-
 -- of every call
 pub answer-fits : (t : List ℕ) (base : ℕ) (k : Lent) → AnswerFits t k (callOf t base k)
-unfolding le fieldBytes
+unfolding littleEndian fieldBytes
 answer-fits t base k = by (layoutOf t base k) (layout-fits t base k)
   where
     by : (o : Result Refusal Layout) → Comes (LayoutFits t k) (LineFits t) o → AnswerFits t k (answerOf k o)
@@ -511,9 +487,9 @@ answer-fits t base k = by (layoutOf t base k) (layout-fits t base k)
           buffers = record {
             words = length-padded (k .words) (l .words) (omega (arith, f .words));
             dataBytes = length-padded (k .dataBytes) (l .dataBytes) (omega (arith, f .dataBytes));
-            labels = table-length (k .labelBytes) labelSize labelRow (λ x. refl) (l .labels) (omega (arith, f .labels));
-            equates = table-length (k .equateBytes) equateSize equateRow (λ x. refl) (l .equates) (omega (arith, f .equates));
-            items = table-length (k .itemBytes) itemSize itemRow (λ x. refl) (l .items) (omega (arith, f .items));
+            labels = table-length labelRow labelSize (λ x. refl) (k .labelBytes) (l .labels) (omega (arith, f .labels));
+            equates = table-length equateRow equateSize (λ x. refl) (k .equateBytes) (l .equates) (omega (arith, f .equates));
+            items = table-length itemRow itemSize (λ x. refl) (k .itemBytes) (l .items) (omega (arith, f .items));
           };
         }
     by (refused r) f =

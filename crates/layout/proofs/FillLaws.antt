@@ -10,14 +10,14 @@ use lib.Seq.{length-take-le, take-append-le, take-take, take-add, take-at, drop-
 use Rattle.numbers.specs.Results.{value, andThen}
 use Rattle.numbers.specs.Text.{same}
 use Rattle.numbers.proofs.Bools.{none-some}
-use Rattle.layout.specs.Bytes.{le, put}
+use Rattle.layout.specs.Bytes.{littleEndian, put}
 use Rattle.layout.specs.Refusals.{atLine}
 use Rattle.layout.specs.Limits.{baseLimit, dataLimit}
 use Rattle.layout.specs.State.{Label, LabelWord, State}
 use Rattle.layout.specs.Addresses.{addressAt, addressIn, fillOne, fill}
 use Rattle.layout.specs.code.Fits.{Each, LabelFits}
 use Rattle.layout.proofs.ResultLaws.{refused-value, value-same}
-use Rattle.layout.proofs.ByteLaws.{length-le, length-put}
+use Rattle.layout.proofs.ByteLaws.{length-little-endian, length-put}
 use Rattle.layout.proofs.Fields.{place-below}
 use Rattle.layout.proofs.StageOrder.{Spread}
 
@@ -40,8 +40,8 @@ spread-within n [] m g = g
 spread-within n (w ∷ ws) m g = omega (arith, g .0, spread-within (w .at + 4) ws m (g .1))
 
 -- a word of the four bytes lies within
-word-length : (w : LabelWord) (a : ℕ) (bytes : List ℕ) → w .at + 4 ≤ length bytes → length (put (w .at) (le 4 a) bytes) ≡ length bytes
-word-length w a bytes h = length-put (w .at) (le 4 a) bytes (omega (arith, length-le 4 a))
+word-length : (w : LabelWord) (a : ℕ) (bytes : List ℕ) → w .at + 4 ≤ length bytes → length (put (w .at) (littleEndian 4 a) bytes) ≡ length bytes
+word-length w a bytes h = length-put (w .at) (littleEndian 4 a) bytes (omega (arith, length-little-endian 4 a))
 
 module _ (look : List ℕ → Option ℕ) where
   -- what stands below the label words stays
@@ -56,18 +56,18 @@ module _ (look : List ℕ → Option ℕ) where
           → (take n last ≡ take n bytes) × (length last ≡ length bytes)
       by none e more = absurd (refused-value e)
       by (some a) e more =
-          let next = put (w .at) (le 4 a) bytes in
+          let next = put (w .at) (littleEndian 4 a) bytes in
           let room : w .at + 4 ≤ length bytes = spread-within (w .at + 4) ws (length bytes) (g .1) in
           let long = word-length w a bytes room in
-          let r = more (w .at + 4) (put (w .at) (le 4 a) bytes) (subst (λ (m : ℕ). Spread (w .at + 4) ws m) (sym long) (g .1)) e in (
+          let r = more (w .at + 4) (put (w .at) (littleEndian 4 a) bytes) (subst (λ (m : ℕ). Spread (w .at + 4) ws m) (sym long) (g .1)) e in (
             sym (take-take n (w .at + 4) last (omega (arith, g .0))) ∙ ap (take n) (r .0) ∙ take-take n (w .at + 4) next (omega (arith, g .0))
-                ∙ put-below n (w .at) (le 4 a) bytes (g .0) (omega arith),
+                ∙ put-below n (w .at) (littleEndian 4 a) bytes (g .0) (omega arith),
             r .1 ∙ long,
           )
 
   -- a label word holds the address that is looked up
   abbrev pub WordHolds : List ℕ → LabelWord → Type 0
-  WordHolds last w = (a : ℕ) × (look (w .name) ≡ some a) × (take 4 (drop (w .at) last) ≡ le 4 a)
+  WordHolds last w = (a : ℕ) × (look (w .name) ≡ some a) × (take 4 (drop (w .at) last) ≡ littleEndian 4 a)
 
   pub fill-holds : (n : ℕ) (ws : List LabelWord) (bytes last : List ℕ) → Spread n ws (length bytes) → fill look ws bytes ≡ value last
       → Each (WordHolds last) ws
@@ -80,21 +80,21 @@ module _ (look : List ℕ → Option ℕ) where
           → Each (WordHolds last) (w ∷ ws)
       by none q e more = absurd (refused-value e)
       by (some a) q e more =
-          let next = put (w .at) (le 4 a) bytes in
-          let four : length (le 4 a) ≡ 4 = length-le 4 a in
+          let next = put (w .at) (littleEndian 4 a) bytes in
+          let four : length (littleEndian 4 a) ≡ 4 = length-little-endian 4 a in
           let room : w .at + 4 ≤ length bytes = spread-within (w .at + 4) ws (length bytes) (g .1) in
-          let spread : Spread (w .at + 4) ws (length (put (w .at) (le 4 a) bytes)) =
+          let spread : Spread (w .at + 4) ws (length (put (w .at) (littleEndian 4 a) bytes)) =
           subst (λ (m : ℕ). Spread (w .at + 4) ws m) (sym (word-length w a bytes room)) (g .1) in
           let r = fill-below (w .at + 4) ws next last spread e in
-          let front : take (w .at + 4) last ≡ take (w .at) bytes ++ le 4 a =
-          r .0 ∙ ap (λ (n : ℕ). take (w .at + n) next) (sym four) ∙ put-here (w .at) (le 4 a) bytes (omega arith) in
+          let front : take (w .at + 4) last ≡ take (w .at) bytes ++ littleEndian 4 a =
+          r .0 ∙ ap (λ (n : ℕ). take (w .at + n) next) (sym four) ∙ put-here (w .at) (littleEndian 4 a) bytes (omega arith) in
           let long : w .at ≤ length last = omega (arith, r .1, word-length w a bytes room) in (
             (
               a,
               q,
               sym (drop-at (take (w .at) last) (take 4 (drop (w .at) last)) (w .at) (length-take-le (w .at) last long))
                   ∙ ap (drop (w .at)) (sym (take-add (w .at) 4 last) ∙ front)
-                  ∙ drop-at (take (w .at) bytes) (le 4 a) (w .at) (length-take-le (w .at) bytes (omega arith)),
+                  ∙ drop-at (take (w .at) bytes) (littleEndian 4 a) (w .at) (length-take-le (w .at) bytes (omega arith)),
             ),
             more next spread e,
           )

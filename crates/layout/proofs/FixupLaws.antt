@@ -7,12 +7,11 @@ use mathlib.Core.List.{List, _∷_}
 use mathlib.Core.Option.{Option, none, some}
 use lib.ListN.{length, drop, getD, length-map, drop-of-length-le, List·getD-map}
 use lib.Seq.{drop-cons}
-use Rattle.numbers.specs.Results.{Result}
-use Rattle.layout.specs.declared.fixups.Filled.the-variants.{Through, Refused}
+use Rattle.numbers.specs.Results.{Result, value, refused}
 use Rattle.layout.specs.declared.limits.Room.{Room}
 use Rattle.layout.specs.declared.records.LabelWordRecord.{LabelWordRecord}
 use Rattle.layout.specs.declared.state.DataCount.{DataCount}
-use Rattle.layout.specs.Bytes.{le, put, padded}
+use Rattle.layout.specs.Bytes.{littleEndian, put, padded}
 use Rattle.layout.specs.Limits.{textLimit}
 use Rattle.layout.specs.Refusals.{Refusal}
 use Rattle.layout.specs.State.{LabelWord, Stored, State}
@@ -20,9 +19,10 @@ use Rattle.layout.specs.Addresses.{labelAddress, fill}
 use Rattle.layout.specs.code.Fits.{LabelWordFits}
 use Rattle.layout.specs.code.Tables.{labelWordSize, labelWordFields, labelWordRecordAt}
 use Rattle.layout.specs.code.Stands.{labelWordOf, DataStore, labelStore, StoredStand}
-use Rattle.layout.specs.code.Placed.{LabelsPlaced, Unfilled, FillAgrees}
+use Rattle.layout.specs.code.Steps.{Agrees}
+use Rattle.layout.specs.code.Placed.{LabelsPlaced, Unfilled, FillLeft}
 use Rattle.layout.proofs.Each.{each-at}
-use Rattle.layout.proofs.ByteLaws.{length-le, length-put, put-used}
+use Rattle.layout.proofs.ByteLaws.{length-little-endian, length-put, put-used}
 use Rattle.layout.proofs.TableLaws.{read-row}
 use Rattle.layout.proofs.DataLaws.{label-word-sized}
 
@@ -83,26 +83,26 @@ module _ {look : List ℕ → Option ℕ} {ws : List LabelWord} {bytes₀ d : Li
     left : drop i ws ≡ w ∷ drop (i + 1) ws
     left = rw (e, add-one i) (drop-cons ws i x below)
 
-    filling-stops : none ≡ look (w .name) → FillAgrees d (Refused 13 (w .line)) (fill look ws bytes₀)
+    filling-stops : none ≡ look (w .name) → fill look ws bytes₀ ≡ refused (record { number = 13; line = w .line })
     unfolding fill
-    filling-stops h = rw (← m .goes, left, fill, ← h) (refl, refl)
+    filling-stops h = rw (← m .goes, left, fill, ← h) refl
 
     filling-goes : (a : ℕ) → some a ≡ look (w .name) → w .at + 4 ≤ length bytes₀ → (d′ : List ℕ) → length d′ ≡ length d
-        → d′ ≡ put (w .at) (le 4 a) d → Filling look ws bytes₀ d′ (i + 1)
+        → d′ ≡ put (w .at) (littleEndian 4 a) d → Filling look ws bytes₀ d′ (i + 1)
     unfolding fill
     filling-goes a h within d′ size is =
-        let room : w .at + length (le 4 a) ≤ length (m .bytes) = omega (arith, length-le 4 a, m .sized) in
+        let room : w .at + length (littleEndian 4 a) ≤ length (m .bytes) = omega (arith, length-little-endian 4 a, m .sized) in
         record {
-          bytes = put (w .at) (le 4 a) (m .bytes);
-          sized = length-put (w .at) (le 4 a) (m .bytes) room ∙ m .sized;
-          stored = is ∙ ap (put (w .at) (le 4 a)) (m .stored) ∙ put-used (length d) (w .at) (le 4 a) (m .bytes) room
-              ∙ ap (λ (n : ℕ). padded n (put (w .at) (le 4 a) (m .bytes))) (sym size);
+          bytes = put (w .at) (littleEndian 4 a) (m .bytes);
+          sized = length-put (w .at) (littleEndian 4 a) (m .bytes) room ∙ m .sized;
+          stored = is ∙ ap (put (w .at) (littleEndian 4 a)) (m .stored) ∙ put-used (length d) (w .at) (littleEndian 4 a) (m .bytes) room
+              ∙ ap (λ (n : ℕ). padded n (put (w .at) (littleEndian 4 a) (m .bytes))) (sym size);
           goes = sym (rw (left, fill, ← h) refl) ∙ m .goes;
         }
 
-  filling-ends : length ws ≤ i → FillAgrees d Through (fill look ws bytes₀)
+  filling-ends : length ws ≤ i → fill look ws bytes₀ ≡ value (m .bytes)
   unfolding fill
-  filling-ends h = rw (← m .goes, drop-of-length-le ws {i = i} h) (m .stored)
+  filling-ends h = rw (← m .goes, drop-of-length-le ws {i = i} h) refl
 
 -- ---- in the code: d was d₀, whatever that and the records of label words and labels stood for
 
@@ -126,8 +126,10 @@ module _ {t l n : List ℕ} {count : ℕ} {w : List ℕ} {words : ℕ} {d₀ : L
       }
 
   module _ {d : List ℕ} {i : ℕ} (m : Fixing t l n count w words d₀ d i) where
-    pub fixing-ends : words ≤ i → (u : Unfilled t l n count w words d₀) → FillAgrees d Through (filled u)
-    fixing-ends h u = filling-ends (m .filling u) (omega (arith, u .stored .labelWords .counted))
+    pub fixing-ends : words ≤ i → (u : Unfilled t l n count w words d₀) → Agrees (FillLeft words d) (value i) (filled u)
+    fixing-ends h u =
+        rw (filling-ends (m .filling u) (omega (arith, u .stored .labelWords .counted)))
+        (record { counted = omega (arith, m .within); stored = m .filling u .stored })
 
     module _ (more : i < words) where
       pub fixing-within : Unfilled t l n count w words d₀ → i * labelWordSize + labelWordSize ≤ length w
@@ -144,13 +146,13 @@ module _ {t l n : List ℕ} {count : ℕ} {w : List ℕ} {words : ℕ} {d₀ : L
 
         module _ (name : List ℕ) (is : name ≡ labelWordOf t r .name) where
           pub fixing-stops : ((base : ℕ) (σ : State) → LabelsPlaced t base σ count (labelStore l n) → none ≡ labelAddress base σ name)
-              → (u : Unfilled t l n count w words d₀) → FillAgrees d (Refused 13 (r .line)) (filled u)
+              → (u : Unfilled t l n count w words d₀) → Agrees (FillLeft words d) (refused (record { number = 13; line = r .line })) (filled u)
           fixing-stops unknown u =
-              filling-stops (m .filling u) _ (labelWordOf t r) (word-of u) (omega (arith, u .stored .labelWords .counted))
-              (rw is at (unknown (u .base) (u .state) (u .labels)))
+              rw (filling-stops (m .filling u) _ (labelWordOf t r) (word-of u) (omega (arith, u .stored .labelWords .counted))
+              (rw is at (unknown (u .base) (u .state) (u .labels)))) refl
 
           pub fixing-goes : (a : ℕ) → ((base : ℕ) (σ : State) → LabelsPlaced t base σ count (labelStore l n) → some a ≡ labelAddress base σ name)
-              → (d′ : List ℕ) → length d′ ≡ length d → d′ ≡ put (r .at) (le 4 a) d → Fixing t l n count w words d₀ d′ (i + 1)
+              → (d′ : List ℕ) → length d′ ≡ length d → d′ ≡ put (r .at) (littleEndian 4 a) d → Fixing t l n count w words d₀ d′ (i + 1)
           fixing-goes a known d′ size written =
               record {
                 within = omega arith;

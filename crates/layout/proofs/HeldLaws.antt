@@ -11,13 +11,13 @@ use lib.ListN.{length, take, drop}
 use lib.Seq.{take-at, drop-at, drop-drop}
 use Rattle.numbers.specs.Results.{Result, value, refused}
 use Rattle.numbers.specs.Ints.{in64, bits, signedOf}
-use Rattle.layout.specs.Bytes.{le, together}
+use Rattle.layout.specs.Bytes.{littleEndian, together}
 use Rattle.layout.specs.Pieces.{Piece, piece}
 use Rattle.layout.specs.Refusals.{Refusal}
 use Rattle.layout.specs.Limits.{labelSize, equateSize, itemSize, Lent}
 use Rattle.layout.specs.State.{State}
 use Rattle.layout.specs.Addresses.{LabelAt}
-use Rattle.layout.specs.Records.{Field, fieldBytes, leValue, labelRecordAt, equateRecordAt, itemRecordAt}
+use Rattle.layout.specs.Records.{RecordField, fieldBytes, littleEndianValue, labelRecordAt, equateRecordAt, itemRecordAt}
 use Rattle.layout.specs.Layouts.{EquateAt, ItemAt, Layout, layoutOf, labelRow, equateRow, itemRow, countsOf, buffersOf, answerOf, callOf}
 use Rattle.layout.specs.Chains.{Conditions, Chained}
 use Rattle.layout.specs.Held.{pieceIn, labelFrom, equateFrom, itemFrom, counted, heldLayout}
@@ -25,13 +25,14 @@ use Rattle.layout.specs.Demands.{BeforeRounds, Holds, Demanded}
 use Rattle.layout.specs.code.Fits.{Each, Inside}
 use Rattle.layout.specs.code.Orders.{LabelAtFits}
 use Rattle.layout.proofs.ResultLaws.{value-refused, refused-same}
-use Rattle.layout.proofs.ByteLaws.{le-value, le-back}
+use Rattle.layout.proofs.ByteLaws.{little-endian-value, little-endian-back}
 use Rattle.layout.proofs.Fields.{bits-below, signed-back, EquateAtFits, ItemAtFits, LayoutFits, layout-fits}
-use Rattle.layout.proofs.DemandLaws.{refusal-numbered, unresolved-line, unresolved-exactly, accepted-holds}
+use Rattle.layout.proofs.DemandLaws.{unresolved-line, unresolved-exactly, accepted-holds}
+use Rattle.layout.proofs.AnswerLaws.{refusal-numbered}
 
 -- ---- records one after the other
 
-module _ {A : Type 0} (f : A → List Field) (size : ℕ) (sized : (x : A) → length (fieldBytes (f x)) ≡ size) (at : List ℕ → ℕ → A)
+module _ {A : Type 0} (f : A → List RecordField) (size : ℕ) (sized : (x : A) → length (fieldBytes (f x)) ≡ size) (at : List ℕ → ℕ → A)
     (behind : (b : List ℕ) (k : ℕ) → at b (suc k) ≡ at (drop size b) k) where
   counted-behind : (b : List ℕ) (k n : ℕ) → counted (at b) (suc k) n ≡ counted (at (drop size b)) k n
   unfolding counted
@@ -52,20 +53,20 @@ module _ {A : Type 0} (f : A → List Field) (size : ℕ) (sized : (x : A) → l
       (counted-behind b 0 (length xs) ∙ ap (λ (b : List ℕ). counted (at b) 0 (length xs)) behind ∙ table-back P back xs rest (g .1))
 
 -- a field of the next record is one of what stands behind the first
-behind-at : (w size at at′ : ℕ) (b : List ℕ) → at′ ≡ size + at → leValue (take w (drop at′ b)) ≡ leValue (take w (drop at (drop size b)))
+behind-at : (w size at at′ : ℕ) (b : List ℕ) → at′ ≡ size + at → littleEndianValue (take w (drop at′ b)) ≡ littleEndianValue (take w (drop at (drop size b)))
 behind-at w size at at′ b e =
-    ap (λ (n : ℕ). leValue (take w (drop n b))) e ∙ ap (λ (xs : List ℕ). leValue (take w xs)) (sym (drop-drop at size b))
+    ap (λ (n : ℕ). littleEndianValue (take w (drop n b))) e ∙ ap (λ (xs : List ℕ). littleEndianValue (take w xs)) (sym (drop-drop at size b))
 
-first-behind : (w size k : ℕ) (b : List ℕ) → leValue (take w (drop (suc k * size) b)) ≡ leValue (take w (drop (k * size) (drop size b)))
+first-behind : (w size k : ℕ) (b : List ℕ) → littleEndianValue (take w (drop (suc k * size) b)) ≡ littleEndianValue (take w (drop (k * size) (drop size b)))
 first-behind w size k b = behind-at w size (k * size) (suc k * size) b (rw (suc-mul k size) (omega arith))
 
-field-behind : (w size k at : ℕ) (b : List ℕ) → leValue (take w (drop (suc k * size + at) b)) ≡ leValue (take w (drop (k * size + at) (drop size b)))
+field-behind : (w size k at : ℕ) (b : List ℕ) → littleEndianValue (take w (drop (suc k * size + at) b)) ≡ littleEndianValue (take w (drop (k * size + at) (drop size b)))
 field-behind w size k at b = behind-at w size (k * size + at) (suc k * size + at) b (rw (suc-mul k size) (omega arith))
 
 -- ---- numbers and pieces
 
-value-back : (z : ℤ) → in64 z ≡ true → signedOf 64 (leValue (le 8 (bits 64 z))) ≡ z
-value-back z e = ap (signedOf 64) (le-value 8 (bits 64 z) ∙ mod-eq-of-lt (bits-below z e)) ∙ signed-back z e
+value-back : (z : ℤ) → in64 z ≡ true → signedOf 64 (littleEndianValue (littleEndian 8 (bits 64 z))) ≡ z
+value-back z e = ap (signedOf 64) (little-endian-value 8 (bits 64 z) ∙ mod-eq-of-lt (bits-below z e)) ∙ signed-back z e
 
 piece-back : (t : List ℕ) (p : Piece) (at n : ℕ) → Inside t p → at ≡ p .at → n ≡ length (p .bytes) → pieceIn t at n ≡ p
 piece-back t p at n i e q =
@@ -119,29 +120,29 @@ module _ (t : List ℕ) where
 
   module _ (short : length t < 2 ^ 32) where
     -- a piece's start and length fit four bytes
-    span-back : (p : Piece) → Inside t p → pieceIn t (leValue (le 4 (p .at))) (leValue (le 4 (length (p .bytes)))) ≡ p
-    span-back p i = piece-back t p _ _ i (le-back (p .at) (omega (arith, i .within))) (le-back (length (p .bytes)) (omega (arith, i .within)))
+    span-back : (p : Piece) → Inside t p → pieceIn t (littleEndianValue (littleEndian 4 (p .at))) (littleEndianValue (littleEndian 4 (length (p .bytes)))) ≡ p
+    span-back p i = piece-back t p _ _ i (little-endian-back (p .at) (omega (arith, i .within))) (little-endian-back (length (p .bytes)) (omega (arith, i .within)))
 
     label-back : (l : LabelAt) (rest : List ℕ) → LabelAtFits t l → labelHeld (fieldBytes (labelRow l) ++ rest) 0 ≡ l
-    unfolding le fieldBytes
-    label-back l rest f = label-as (span-back (l .name) (f .name)) (le-back (l .address) (f .address)) (le-back (l .line) (omega (arith, f .line)))
+    unfolding littleEndian fieldBytes
+    label-back l rest f = label-as (span-back (l .name) (f .name)) (little-endian-back (l .address) (f .address)) (little-endian-back (l .line) (omega (arith, f .line)))
 
     equate-back : (n : ℕ) → n < 2 ^ 32 → (e : EquateAt) (rest : List ℕ) → EquateAtFits t n e → equateHeld (fieldBytes (equateRow e) ++ rest) 0 ≡ e
-    unfolding le fieldBytes
+    unfolding littleEndian fieldBytes
     equate-back n few e rest f =
-        equate-as (span-back (e .name) (f .name)) (le-back (e .line) (omega (arith, f .line))) (value-back (e .value) (f .value))
-        (le-back (e .round) (omega (arith, f .to)))
+        equate-as (span-back (e .name) (f .name)) (little-endian-back (e .line) (omega (arith, f .line))) (value-back (e .value) (f .value))
+        (little-endian-back (e .round) (omega (arith, f .to)))
 
     item-back : (n : ℕ) → n < 2 ^ 32 → (i : ItemAt) (rest : List ℕ) → ItemAtFits t n i → itemHeld (fieldBytes (itemRow i) ++ rest) 0 ≡ i
-    unfolding le fieldBytes
+    unfolding littleEndian fieldBytes
     item-back n few i rest f =
-        item-as (le-back (i .address) (f .address)) (le-back (i .line) (omega (arith, f .line))) (le-back (i .kind) (omega (arith, f .kind)))
-        (le-back (i .first) (omega (arith, f .first))) (span-back (i .source) (f .source))
+        item-as (little-endian-back (i .address) (f .address)) (little-endian-back (i .line) (omega (arith, f .line))) (little-endian-back (i .kind) (omega (arith, f .kind)))
+        (little-endian-back (i .first) (omega (arith, f .first))) (span-back (i .source) (f .source))
 
 -- ---- the whole layout
 
 pub held-back : (t : List ℕ) (k : Lent) (l : Layout) → LayoutFits t k l → heldLayout t (countsOf l) (buffersOf k l) ≡ l
-unfolding le fieldBytes
+unfolding littleEndian fieldBytes
 held-back t k l f =
     made
     (take-at (l .words) _ (length (l .words)) refl)

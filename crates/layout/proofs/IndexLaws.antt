@@ -133,13 +133,13 @@ other-bucket a x n = by (same a x) refl
     by false e = refl
 
 -- along x's chain: the names from c on are not x, and the one before c is in x's bucket
-pub record Walk (ns : List (List ℕ)) (x : List ℕ) (c : ℕ) : Type 0 where
+pub record BucketWalk (ns : List (List ℕ)) (x : List ℕ) (c : ℕ) : Type 0 where
   pub le : c ≤ length ns
   pub here : (k : ℕ) → c ≡ suc k → bucketOf (nameAt ns k) ≡ bucketOf x
   pub rest : (i : ℕ) → c ≤ i → i < length ns → same (nameAt ns i) x ≡ false
 
 module _ (ns : List (List ℕ)) (ix x : List ℕ) (q : Indexed ns ix) where
-  from-last : (m c : ℕ) → m ≤ length ns → Last ns (bucketOf x) m c → ((i : ℕ) → m ≤ i → i < length ns → same (nameAt ns i) x ≡ false) → Walk ns x c
+  from-last : (m c : ℕ) → m ≤ length ns → Last ns (bucketOf x) m c → ((i : ℕ) → m ≤ i → i < length ns → same (nameAt ns i) x ≡ false) → BucketWalk ns x c
   from-last m c l p above =
       record {
         le = omega (arith, p .le);
@@ -148,13 +148,13 @@ module _ (ns : List (List ℕ)) (ix x : List ℕ) (q : Indexed ns ix) where
       }
 
   -- the chain begins with the bucket's entry
-  pub walk-first : (b : ℕ) → b ≡ bucketOf x → Walk ns x (getD ix b 0)
+  pub walk-first : (b : ℕ) → b ≡ bucketOf x → BucketWalk ns x (getD ix b 0)
   walk-first b e =
       rw (e, q .head (bucketOf x) (bucket-below x))
       (from-last (length ns) _ (omega arith) (last-is ns (bucketOf x) (length ns)) (λ i a h. absurd (omega arith)))
 
   -- and goes from a name to the one before it
-  module _ (c : ℕ) (left : 0 < c) (w : Walk ns x c) where
+  module _ (c : ℕ) (left : 0 < c) (w : BucketWalk ns x c) where
     chain-next : Last ns (bucketOf x) (c - 1) (getD ix (buckets + (c - 1)) 0)
     chain-next =
         let h : bucketOf (nameAt ns (c - 1)) ≡ bucketOf x = w .here (c - 1) (omega arith) in
@@ -163,7 +163,7 @@ module _ (ns : List (List ℕ)) (ix x : List ℕ) (q : Indexed ns ix) where
     pub walk-less : getD ix (buckets + (c - 1)) 0 < c
     walk-less = omega (arith, chain-next .le)
 
-    pub walk-next : same (nameAt ns (c - 1)) x ≡ false → Walk ns x (getD ix (buckets + (c - 1)) 0)
+    pub walk-next : same (nameAt ns (c - 1)) x ≡ false → BucketWalk ns x (getD ix (buckets + (c - 1)) 0)
     walk-next e =
         from-last (c - 1) _ (omega (arith, w .le)) chain-next
         (λ i a b. by-equal i (c - 1) (λ z. rw z e) (λ n. w .rest i (omega (arith, n)) b))
@@ -175,7 +175,7 @@ module _ (ns : List (List ℕ)) (ix x : List ℕ) (q : Indexed ns ix) where
         ∙ sym (lookup-at ns x 0 (c - 1) (omega (arith, w .le)) e
         (λ i l. rw (← same-equal (nameAt ns (c - 1)) x e) (d i (c - 1) l (omega (arith, w .le)))))
 
-  pub walk-miss : (c : ℕ) → c ≤ 0 → Walk ns x c → none ≡ lookupIn x 0 ns
+  pub walk-miss : (c : ℕ) → c ≤ 0 → BucketWalk ns x c → none ≡ lookupIn x 0 ns
   walk-miss c z w = sym (lookup-none ns x 0 (λ i l. w .rest i (omega arith) l))
 
 -- ---- the index is kept

@@ -11,10 +11,11 @@ use lib.Seq.{length-take-le, drop-drop, drop-append-add, drop-append-seam}
 use borrow.Author.Tests.{ltb-true}
 use Rattle.numbers.specs.declared.text.Span.{Span}
 use Rattle.numbers.specs.Text.{leadingSpaces, trimmed, indexOf, before, uncommented}
+use Rattle.numbers.specs.Operands.{consFirst}
 use Rattle.numbers.specs.code.Spans.{trimSpan, spanned}
 use Rattle.numbers.proofs.Trims.{trim-span-text, trim-span-within, span-front, tail}
 use Rattle.numbers.proofs.Places.{index-within}
-use Rattle.layout.specs.Pieces.{Piece, piece, trimPiece, fromByte, holds, pieceBefore, pieceAfter, statementOf, consLine, lines, linePieces}
+use Rattle.layout.specs.Pieces.{Piece, piece, trimPiece, fromByte, holds, pieceBefore, pieceAfter, statementOf, lines, linePieces}
 use Rattle.layout.specs.code.Fits.{Each, Inside}
 
 -- n bytes of a piece, from its ath on, are a piece of the text
@@ -95,7 +96,7 @@ lines-after u (b ∷ bs) = go (eqb b 10) (lines bs) (later (lines-after (u ++ (b
         same-place t (lines bs) _ _ more (transport (ap whole (append-assoc u (b ∷ []) bs)) h)
 
     go : (c : Bool) (ls : List (List ℕ)) → Each (Inside t) (linePieces (suc (length u)) ls)
-        → Each (Inside t) (linePieces (length u) (cond c ([] ∷ ls) (consLine b ls)))
+        → Each (Inside t) (linePieces (length u) (cond c ([] ∷ ls) (consFirst b ls)))
     go true ls h = (front-inside u b bs [] (omega arith) refl, same-place t ls _ _ (omega arith) h)
     go false [] h = (front-inside u b bs (b ∷ []) (omega arith) refl, tt)
     go false (l ∷ ls) h = (cons-inside u b bs l (h .0), same-place t ls _ _ (omega arith) (h .1))

@@ -20,13 +20,15 @@ use Rattle.layout.specs.declared.pseudo.Pseudo.{Pseudo}
 use Rattle.layout.specs.declared.pseudo.Pseudo.the-variants as pseudos
 use Rattle.layout.specs.declared.pseudo.LineKind.{LineKind}
 use Rattle.layout.specs.declared.pseudo.LineKind.the-variants as kind
-use Rattle.layout.specs.Bytes.{le, put}
+use Rattle.layout.specs.declared.pseudo.TextLine.{TextLine}
+use Rattle.layout.specs.declared.pseudo.TextLine.the-variants as line
+use Rattle.layout.specs.Bytes.{littleEndian, put}
 use Rattle.layout.specs.Limits.{itemSize}
 use Rattle.layout.specs.Records.{fieldBytes, itemFields}
 use Rattle.layout.specs.Pseudos.{Item, ordinary, pseudo, other, itemOf, pseudoOperands, liNumber, liWords, reservedWords, itemKind}
 use Rattle.layout.specs.State.{ItemLine}
 use Rattle.layout.specs.Stage.{addItem, textLine}
-use Rattle.layout.specs.code.Kinds.{kindCode, kindItem, kindSource}
+use Rattle.layout.specs.code.Kinds.{textLineCode, kindItem, kindSource}
 use Rattle.layout.specs.code.Spans.{SpanWithin, pieceAt}
 use Rattle.layout.specs.code.Steps.{Steps}
 use Rattle.layout.specs.code.Stands.{ItemsStand, itemSoFar, itemsOf}
@@ -34,11 +36,10 @@ use Rattle.layout.proofs.ByteLaws.{length-put}
 use Rattle.layout.proofs.TableLaws.{table-more}
 use Rattle.layout.proofs.SpanLaws.{within-size, within-inside}
 use Rattle.layout.proofs.Each.{cond-has}
-use Rattle.layout.proofs.PseudoLaws.{source-back}
 use Rattle.layout.proofs.Kept.{add-item-fits}
 
 item-sized : (x : ItemLine) → length (fieldBytes (itemSoFar x)) ≡ itemSize
-unfolding fieldBytes le
+unfolding fieldBytes littleEndian
 item-sized x = refl
 
 -- the code's record of an item
@@ -108,48 +109,32 @@ words-few (some pseudos.Random) s = omega arith
 pub kind-few : (t : List ℕ) (x : LineKind) (m : ℕ) → m ≡ reservedWords (kindItem x) (spanned t (kindSource x)) → m ≤ 11
 kind-few t x m e = rw e (words-few (kindItem x) (spanned t (kindSource x)))
 
-module _ (t : List ℕ) (q : Span) (found : LineKind) (e : found ≡ kindCode (itemOf (spanned t q)) q) where
-  pub kind-within : (x : LineKind) → found ≡ x → SpanWithin t q → SpanWithin t (kindSource x)
-  kind-within x f h = rw (← f, e, source-back (itemOf (spanned t q)) q) h
-
-  kind-ordinary : (p : Span) → found ≡ kind.Instr p → (itemOf (spanned t q) ≡ ordinary) × (q ≡ p)
-  kind-ordinary p f = by (itemOf (spanned t q)) (sym e ∙ f)
+module _ (t : List ℕ) (q : Span) (found : TextLine) (e : found ≡ textLineCode (itemOf (spanned t q)) q) where
+  pub kind-within : (x : LineKind) → found ≡ line.Item x → SpanWithin t q → SpanWithin t (kindSource x)
+  kind-within x f h = by (itemOf (spanned t q)) (sym e ∙ f)
     where
-      by : (j : Item) → kindCode j q ≡ kind.Instr p → (j ≡ ordinary) × (q ≡ p)
-      by ordinary g = (refl, cc)
-      by (pseudo y) g = (cc, cc)
-      by other g = (cc, cc)
+      by : (j : Item) → textLineCode j q ≡ line.Item x → SpanWithin t (kindSource x)
+      by ordinary g = let z : kind.Instr q ≡ x = cc in rw (← z) h
+      by (pseudo p) g = let z : kind.Pseudo p q ≡ x = cc in rw (← z) h
+      by other g = let z : _≡_ {A = ℕ} 0 1 = cc in absurd (omega arith)
 
-  kind-pseudo : (x : Pseudo) (p : Span) → found ≡ kind.Pseudo x p → (itemOf (spanned t q) ≡ pseudo x) × (q ≡ p)
-  kind-pseudo x p f = by (itemOf (spanned t q)) (sym e ∙ f)
-    where
-      by : (j : Item) → kindCode j q ≡ kind.Pseudo x p → (j ≡ pseudo x) × (q ≡ p)
-      by ordinary g = (cc, cc)
-      by (pseudo y) g = (cc, cc)
-      by other g = (cc, cc)
-
-  kind-other : (p : Span) → found ≡ kind.Unsupported p → itemOf (spanned t q) ≡ other
-  kind-other p f = by (itemOf (spanned t q)) (sym e ∙ f)
-    where
-      by : (j : Item) → kindCode j q ≡ kind.Unsupported p → j ≡ other
-      by ordinary g = cc
-      by (pseudo y) g = cc
-      by other g = refl
-
-  module _ (k : Room) (c : ItemCount) (b b′ : List ℕ) (line : ℕ) where
-    pub text-ordinary : (r : ItemStep) (p : Span) → found ≡ kind.Instr p
-        → Steps (ItemsStand t k) c b (itemsOf r) b′ (addItem k line none (pieceAt t p))
-        → Steps (ItemsStand t k) c b (itemsOf r) b′ (textLine k line (pieceAt t q) (itemOf (spanned t q)))
+  module _ (k : Room) (c : ItemCount) (b b′ : List ℕ) (n : ℕ) where
+    pub text-item : (r : ItemStep) (x : LineKind) → found ≡ line.Item x
+        → Steps (ItemsStand t k) c b (itemsOf r) b′ (addItem k n (kindItem x) (pieceAt t (kindSource x)))
+        → Steps (ItemsStand t k) c b (itemsOf r) b′ (textLine k n (pieceAt t q) (itemOf (spanned t q)))
     unfolding textLine
-    text-ordinary r p f h σ s = let is = kind-ordinary p f in rw (is .0, is .1) (h σ s)
+    text-item r x f h = by (itemOf (spanned t q)) (sym e ∙ f)
+      where
+        by : (j : Item) → textLineCode j q ≡ line.Item x → Steps (ItemsStand t k) c b (itemsOf r) b′ (textLine k n (pieceAt t q) j)
+        by ordinary g σ s = let z : x ≡ kind.Instr q = cc in rw z at (h σ s)
+        by (pseudo p) g σ s = let z : x ≡ kind.Pseudo p q = cc in rw z at (h σ s)
+        by other g σ s = let z : _≡_ {A = ℕ} 0 1 = cc in absurd (omega arith)
 
-    pub text-pseudo : (r : ItemStep) (x : Pseudo) (p : Span) → found ≡ kind.Pseudo x p
-        → Steps (ItemsStand t k) c b (itemsOf r) b′ (addItem k line (some x) (pieceAt t p))
-        → Steps (ItemsStand t k) c b (itemsOf r) b′ (textLine k line (pieceAt t q) (itemOf (spanned t q)))
+    pub text-other : found ≡ line.Unsupported → Steps (ItemsStand t k) c b (refused 21) b′ (textLine k n (pieceAt t q) (itemOf (spanned t q)))
     unfolding textLine
-    text-pseudo r x p f h σ s = let is = kind-pseudo x p f in rw (is .0, is .1) (h σ s)
-
-    pub text-other : (p : Span) → found ≡ kind.Unsupported p
-        → Steps (ItemsStand t k) c b (refused 21) b′ (textLine k line (pieceAt t q) (itemOf (spanned t q)))
-    unfolding textLine
-    text-other p f σ s = rw (kind-other p f) refl
+    text-other f = by (itemOf (spanned t q)) (sym e ∙ f)
+      where
+        by : (j : Item) → textLineCode j q ≡ line.Unsupported → Steps (ItemsStand t k) c b (refused 21) b′ (textLine k n (pieceAt t q) j)
+        by ordinary g σ s = let z : _≡_ {A = ℕ} 0 1 = cc in absurd (omega arith)
+        by (pseudo p) g σ s = let z : _≡_ {A = ℕ} 0 1 = cc in absurd (omega arith)
+        by other g σ s = refl

@@ -24,9 +24,9 @@ use Rattle.encoder.specs.declared.instruction.Instruction.{Instruction}
 use Rattle.encoder.specs.declared.instruction.Instruction.the-variants.{Addi}
 use Rattle.encoder.specs.Table.{x0}
 use Rattle.encoder.specs.Encoding.{encoding}
-use Rattle.encoder.specs.Run.{Leaves}
 use Rattle.encoder.specs.Split.{loadPair}
-use Rattle.encoder.proofs.Load.{pair-leaves, single-leaves}
+use Rattle.encoder.specs.Run.{LoadsIn}
+use Rattle.encoder.proofs.Load.{pair-loads, single-loads}
 use Rattle.layout.specs.declared.pseudo.Pseudo.{Pseudo}
 use Rattle.layout.specs.declared.pseudo.Pseudo.the-variants.{Li, La}
 use Rattle.layout.specs.Refusals.{atLine}
@@ -71,25 +71,25 @@ encoded-words (i ∷ is) (w ∷ ws) e =
     let q : map encoding is ≡ map value ws = cc in
     ap₂ (λ (a : Result ℕ ℕ) (x : Words). andThen a (λ w. mapped (λ ws. w ∷ ws) x)) p (encoded-words is ws q)
 
--- words that the encoder gives leave what was proved of them
-leaves-as : (vs ws : List ℕ) (r v v′ : ℕ) → _≡_ {A = Words} (value ws) (value vs) → v ≡ v′ → Leaves ws r v → Leaves vs r v′
-leaves-as vs ws r v v′ p q h = subst (λ (us : List ℕ). Leaves us r v′) (value-same p) (subst (λ (u : ℕ). Leaves ws r u) q h)
+-- words that the encoder gives load what was proved of them
+loads-as : (vs ws : List ℕ) (r v v′ : ℕ) → _≡_ {A = Words} (value ws) (value vs) → v ≡ v′ → LoadsIn ws r v → LoadsIn vs r v′
+loads-as vs ws r v v′ p q h = subst (λ (us : List ℕ). LoadsIn us r v′) (value-same p) (subst (λ (u : ℕ). LoadsIn ws r u) q h)
 
--- a number's load leaves it
-load-leaves : (rd : Register) (z : ℤ) (vs : List ℕ) → isSigned32 z ≡ true → rd .0 < 32 → andThen (liLoad rd z) encoded ≡ value vs → 0 < rd .0
-    → Leaves vs (rd .0) (modulo32 z)
+-- a number's load loads it
+number-loads : (rd : Register) (z : ℤ) (vs : List ℕ) → isSigned32 z ≡ true → rd .0 < 32 → andThen (liLoad rd z) encoded ≡ value vs
+    → LoadsIn vs (rd .0) (modulo32 z)
 unfolding encoded
-load-leaves rd z vs s below e nonzero = by (isSigned12 z) refl e
+number-loads rd z vs s below e = by (isSigned12 z) refl e
   where
-    by : (c : Bool) → isSigned12 z ≡ c → encoded (cond c (Addi rd x0 z ∷ []) (loadPair rd (bits 32 z))) ≡ value vs → Leaves vs (rd .0) (modulo32 z)
+    by : (c : Bool) → isSigned12 z ≡ c → encoded (cond c (Addi rd x0 z ∷ []) (loadPair rd (bits 32 z))) ≡ value vs → LoadsIn vs (rd .0) (modulo32 z)
     by true q e =
-        let r = single-leaves rd z nonzero below q in
+        let r = single-loads rd z below q in
         let w = encoded-words (Addi rd x0 z ∷ []) (r .0 ∷ []) (ap (λ (a : Result ℕ ℕ). a ∷ []) (r .1)) in
-        leaves-as vs (r .0 ∷ []) (rd .0) (bits 32 z) (modulo32 z) (sym w ∙ e) (signed-bits z s) (r .2)
+        loads-as vs (r .0 ∷ []) (rd .0) (bits 32 z) (modulo32 z) (sym w ∙ e) (signed-bits z s) (r .2)
     by false q e =
-        let r = pair-leaves rd (bits 32 z) nonzero below in
+        let r = pair-loads rd (bits 32 z) below in
         let w = encoded-words (loadPair rd (bits 32 z)) (r .0) (r .1) in
-        leaves-as vs (r .0) (rd .0) (bits 32 z % 2 ^ 32) (modulo32 z) (sym w ∙ e) (signed-mod z s) (r .2)
+        loads-as vs (r .0) (rd .0) (bits 32 z % 2 ^ 32) (modulo32 z) (sym w ∙ e) (signed-mod z s) (r .2)
 
 module _ (const : List ℕ → Option ℤ) (label : List ℕ → Option ℕ) where
   -- the operands' register and what is loaded there
@@ -101,7 +101,7 @@ module _ (const : List ℕ → Option ℤ) (label : List ℕ → Option ℕ) whe
     isRegister : registerOf first ≡ some register
     value : ℤ
     said : says second ≡ some value
-    leaves : 0 < register → Leaves vs register (modulo32 value)
+    loaded : LoadsIn vs register (modulo32 value)
 
   -- ---- li
 
@@ -115,8 +115,8 @@ module _ (const : List ℕ → Option ℤ) (label : List ℕ → Option ℕ) whe
       reg : ℕ → Register
       reg n = record { 0 = n }
 
-      made : (n : ℕ) → registerOf a ≡ some n → (z : ℤ) → saysLi b ≡ some z → (0 < n → Leaves vs n (modulo32 z)) → LoadsAs (a ∷ b ∷ []) vs saysLi
-      made n r z q l = record { first = a; second = b; operands = refl; register = n; isRegister = r; value = z; said = q; leaves = l }
+      made : (n : ℕ) → registerOf a ≡ some n → (z : ℤ) → saysLi b ≡ some z → LoadsIn vs n (modulo32 z) → LoadsAs (a ∷ b ∷ []) vs saysLi
+      made n r z q l = record { first = a; second = b; operands = refl; register = n; isRegister = r; value = z; said = q; loaded = l }
 
       says : (o : Option ℤ) → immOf b ≡ o → saysLi b ≡ liSays o (imm64Of b) (const b)
       says o q = ap (λ (o : Option ℤ). liSays o (imm64Of b) (const b)) q
@@ -128,13 +128,13 @@ module _ (const : List ℕ → Option ℤ) (label : List ℕ → Option ℕ) whe
           s : isSigned32 z ≡ true
           s = imm-in32 b z q .0
 
-          leaves : 0 < n → Leaves vs n (modulo32 z)
-          leaves = load-leaves (reg n) z vs s (register-below a n r) e
+          loaded : LoadsIn vs n (modulo32 z)
+          loaded = number-loads (reg n) z vs s (register-below a n r) e
 
           which : (imm64Of b ≡ some z) ⊎ (imm64Of b ≡ some (z +ℤ pos (2 ^ 32))) → LoadsAs (a ∷ b ∷ []) vs saysLi
-          which (inl w) = made n r z (says (some z) q ∙ w) leaves
+          which (inl w) = made n r z (says (some z) q ∙ w) loaded
           which (inr w) =
-              made n r (z +ℤ pos (2 ^ 32)) (says (some z) q ∙ w) (λ h. subst (λ (v : ℕ). Leaves vs n v) (sym (mod-up z s)) (leaves h))
+              made n r (z +ℤ pos (2 ^ 32)) (says (some z) q ∙ w) (subst (LoadsIn vs n) (sym (mod-up z s)) loaded)
 
       name : (n : ℕ) → registerOf a ≡ some n → immOf b ≡ none → (c : Bool) (o : Option ℤ) → const b ≡ o
           → andThen (cond c (refused 19) (liConstant o (liLoad (reg n)))) encoded ≡ value vs → LoadsAs (a ∷ b ∷ []) vs saysLi
@@ -144,7 +144,7 @@ module _ (const : List ℕ → Option ℤ) (label : List ℕ → Option ℕ) whe
         where
           small : (c : Bool) → isSigned32 z ≡ c → andThen (cond c (liLoad (reg n) z) (refused 19)) encoded ≡ value vs
               → LoadsAs (a ∷ b ∷ []) vs saysLi
-          small true s e = made n r z (says none q ∙ w) (load-leaves (reg n) z vs s (register-below a n r) e)
+          small true s e = made n r z (says none q ∙ w) (number-loads (reg n) z vs s (register-below a n r) e)
           small false s e = absurd (refused-value e)
 
       then : (n : ℕ) → registerOf a ≡ some n → (o : Option ℤ) → immOf b ≡ o → andThen (onNumber o b const (liLoad (reg n))) encoded ≡ value vs
@@ -186,10 +186,10 @@ module _ (const : List ℕ → Option ℤ) (label : List ℕ → Option ℕ) whe
             isRegister = r;
             value = pos v;
             said = ap asNumber q;
-            leaves = λ h.
+            loaded =
                 let rd : Register = record { 0 = n } in
-                let g = pair-leaves (record { 0 = n }) v h (register-below a n r) in
-                leaves-as vs (g .0) n (v % 2 ^ 32) (v % 2 ^ 32) (sym (encoded-words (loadPair rd v) (g .0) (g .1)) ∙ e) refl (g .2);
+                let g = pair-loads (record { 0 = n }) v (register-below a n r) in
+                loads-as vs (g .0) n (v % 2 ^ 32) (v % 2 ^ 32) (sym (encoded-words (loadPair rd v) (g .0) (g .1)) ∙ e) refl (g .2);
           }
 
   la-loads : (ops : List (List ℕ)) (vs : List ℕ) → andThen (expansion const label La ops) encoded ≡ value vs → LoadsAs ops vs saysLa
@@ -266,7 +266,7 @@ module _ (const : List ℕ → Option ℤ) (label : List ℕ → Option ℕ) whe
             isRegister = r .isRegister;
             value = r .value;
             said = f (r .second) ∙ r .said;
-            leaves = subst (λ (us : List ℕ). 0 < r .register → Leaves us (r .register) (modulo32 (r .value))) (sym w) (r .leaves);
+            loads = subst (λ (us : List ℕ). LoadsIn us (r .register) (modulo32 (r .value))) (sym w) (r .loaded);
           }
 
       item-holds : (x : ItemLine) (above : List ItemAt) (n : ℕ) (vs : List ℕ) (below : List ItemAt)

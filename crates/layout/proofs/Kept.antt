@@ -11,6 +11,7 @@ use borrow.Author.Tests.{ltb-true, leb-true}
 use Rattle.numbers.specs.Results.{Result, value, refused, andThen, mapped}
 use Rattle.numbers.specs.Text.{same}
 use Rattle.numbers.specs.Numbers.{immOf}
+use Rattle.numbers.specs.Operands.{consFirst}
 use Rattle.layout.specs.declared.state.Section.{Section}
 use Rattle.layout.specs.declared.state.Section.the-variants as section
 use Rattle.layout.specs.declared.state.Place.{Place}
@@ -19,14 +20,14 @@ use Rattle.layout.specs.declared.pseudo.Pseudo.{Pseudo}
 use Rattle.layout.specs.declared.directives.Reservation.{Reservation}
 use Rattle.layout.specs.Refusals.{atLine}
 use Rattle.layout.specs.Limits.{wordLimit, dataLimit, bssLimit, labelWordLimit, Lent, roomOf}
-use Rattle.layout.specs.Pieces.{Piece, consLine, lines, linePieces}
+use Rattle.layout.specs.Pieces.{Piece, lines, linePieces}
 use Rattle.layout.specs.Statements.{OwnStatement, item, stores, reserves, reservesBss, Statement, nothing, enters, equate, own, Line, lineOf}
 use Rattle.layout.specs.Pseudos.{Item, ordinary, pseudo, other, itemOf, reservedWords}
 use Rattle.layout.specs.Directives.{Write, bytes, gap, addressOf, placeAfter, reservation, storeWrites}
 use Rattle.layout.specs.State.{Label, Equate, ItemLine, LabelWord, Items, Stored, Own, Rest, State, start, offsetIn, here}
 use Rattle.layout.specs.Stage.{isLabel, recorded, addLabel, labelStep, addEquate, addItem, textLine, writeSize, writeBytes, growData}
 use Rattle.layout.specs.Stage.{addLabelWord, dataWrite, dataLine, growBss, bssLine, inSection, withItems, withStored, withBss, withEquates}
-use Rattle.layout.specs.Stage.{withOwn, withRest, ownLine, says, stepParsed, stepLine, lineStage}
+use Rattle.layout.specs.Stage.{withOwn, withRest, ownLine, statementStep, stepParsed, stepLine, lineStage}
 use Rattle.layout.specs.code.Places.{sectionLimit, PlaceFits}
 use Rattle.layout.specs.code.Fits.{Each, Inside, LabelFits, EquateFits, ItemFits, LabelWordFits, reservedIn}
 use Rattle.layout.specs.code.Fits.{LabelsFit, EquatesFit, ItemsFit, StoredFits, OwnFits, RestFits, Fits}
@@ -264,15 +265,15 @@ module _ (t : List ℕ) (k : Room) where
               mapped-gives (λ m. m ≤ bssLimit) (OwnFits t k) (withBss σ) (bssLine r (σ .bss))
               (λ x i. record { items = f .items; stored = f .stored; bss = i }) (bss-line-fits r (σ .bss))
 
-      pub says-fits : (s : Statement) (σ : Rest) → StatementInside t s → RestFits t k σ → Gives (RestFits t k) (says k line s σ)
-      unfolding says
-      says-fits nothing σ g f = f
-      says-fits (enters s) σ g f = record { equates = f .equates; own = enters-fits s (σ .own) (f .own) }
-      says-fits (equate name e) σ g f =
+      pub statement-fits : (s : Statement) (σ : Rest) → StatementInside t s → RestFits t k σ → Gives (RestFits t k) (statementStep k line s σ)
+      unfolding statementStep
+      statement-fits nothing σ g f = f
+      statement-fits (enters s) σ g f = record { equates = f .equates; own = enters-fits s (σ .own) (f .own) }
+      statement-fits (equate name e) σ g f =
           let x : Equate = record { name = name; expr = e; place = here (σ .own); line = line } in
           mapped-gives (EquatesFit t k) (RestFits t k) (withEquates σ) (addEquate k x (σ .equates)) (λ es i. record { equates = i; own = f .own })
           (add-equate-fits x (σ .equates) (record { name = g .0; source = g .1; place = here-fits (σ .own) (f .own); line = h }) (f .equates))
-      says-fits (own s) σ g f =
+      statement-fits (own s) σ g f =
           mapped-gives (OwnFits t k) (RestFits t k) (withOwn σ) (ownLine k line s (σ .own)) (λ x i. record { equates = f .equates; own = i })
           (own-line-fits s (σ .own) g (f .own))
 
@@ -280,12 +281,12 @@ module _ (t : List ℕ) (k : Room) where
       unfolding stepParsed
       step-parsed-fits l σ g f =
           let place = here (σ .rest .own) in
-          let said = and-then-gives (StatementInside t) (RestFits t k) (l .says) (λ s. says k line s (σ .rest)) (g .says)
-          (λ s i. says-fits s (σ .rest) i (f .rest)) in
+          let said = and-then-gives (StatementInside t) (RestFits t k) (l .says) (λ s. statementStep k line s (σ .rest)) (g .says)
+          (λ s i. statement-fits s (σ .rest) i (f .rest)) in
           and-then-gives (LabelsFit t k) (Fits t k) (labelStep k place line (l .label) (σ .labels))
-          (λ ls. mapped (withRest ls) (andThen (l .says) (λ s. says k line s (σ .rest))))
+          (λ ls. mapped (withRest ls) (andThen (l .says) (λ s. statementStep k line s (σ .rest))))
           (label-step-fits line h place (l .label) (σ .labels) (here-fits (σ .rest .own) (f .rest .own)) (g .label) (f .labels)) (λ ls i.
-          mapped-gives (RestFits t k) (Fits t k) (withRest ls) (andThen (l .says) (λ s. says k line s (σ .rest)))
+          mapped-gives (RestFits t k) (Fits t k) (withRest ls) (andThen (l .says) (λ s. statementStep k line s (σ .rest)))
           (λ x j. record { labels = i; rest = j }) said)
 
       pub step-line-fits : (p : Piece) (σ : State) → Inside t p → Fits t k σ → Gives (Fits t k) (stepLine k line p σ)
@@ -325,7 +326,7 @@ unfolding lines
 lines-few [] = omega arith
 lines-few (b ∷ bs) = by (eqb b 10) (lines bs) (lines-few bs)
   where
-    by : (c : Bool) (ls : List (List ℕ)) → length ls ≤ length bs → length (cond c ([] ∷ ls) (consLine b ls)) ≤ suc (length bs)
+    by : (c : Bool) (ls : List (List ℕ)) → length ls ≤ length bs → length (cond c ([] ∷ ls) (consFirst b ls)) ≤ suc (length bs)
     by true ls h = omega arith
     by false [] h = omega arith
     by false (l ∷ ls) h = omega arith

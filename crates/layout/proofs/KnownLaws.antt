@@ -15,7 +15,7 @@ use borrow.Author.Tests.{ne-eqb}
 use Rattle.numbers.specs.Text.{same}
 use Rattle.numbers.specs.Ints.{in64, bits, signedOf}
 use Rattle.numbers.specs.code.Spans.{spanned}
-use Rattle.layout.specs.Bytes.{le}
+use Rattle.layout.specs.Bytes.{littleEndian}
 use Rattle.layout.specs.Limits.{equateSize}
 use Rattle.layout.specs.Records.{four, eight, fieldBytes, equateRecordAt}
 use Rattle.layout.specs.Rounds.{Found, Known, orElse, foundValue, constant, firstPending}
@@ -32,7 +32,7 @@ use Rattle.layout.proofs.IndexLaws.{bucket-below, Last, last-is, other-
 -- ---- the records
 
 pub known-sized : (k : Known) → length (fieldBytes (knownFields k)) ≡ equateSize
-unfolding fieldBytes le
+unfolding fieldBytes littleEndian
 known-sized k = refl
 
 maybe-round : (o : Option Found) → MaybeFits o → roundSoFar o < 2 ^ 32
@@ -52,26 +52,26 @@ module _ {t b : List ℕ} {count : ℕ} {ks : List Known} (s : EquateRecords t b
     fits-at = each-at (KnownFits t) ks noKnown j (s .fits) h
 
     pub name-start : equateRecordAt b j .start ≡ knownAt ks j .equate .name .at
-    unfolding fieldBytes le
+    unfolding fieldBytes littleEndian
     name-start =
         read-four knownFields equateSize known-sized b ks noKnown j (j * equateSize) (knownAt ks j .equate .name .at) [] _ (s .records) h refl
         (omega arith) (omega (arith, fits-at .equate .name .within, s .text))
 
     pub name-len : equateRecordAt b j .len ≡ length (knownName (knownAt ks j))
-    unfolding fieldBytes le
+    unfolding fieldBytes littleEndian
     name-len =
         read-four knownFields equateSize known-sized b ks noKnown j (j * equateSize + 4) (length (knownName (knownAt ks j)))
         (four (knownAt ks j .equate .name .at) ∷ []) _ (s .records) h refl refl (omega (arith, fits-at .equate .name .within, s .text))
 
     pub line-back : equateRecordAt b j .line ≡ knownAt ks j .equate .line
-    unfolding fieldBytes le
+    unfolding fieldBytes littleEndian
     line-back =
         read-four knownFields equateSize known-sized b ks noKnown j (j * equateSize + 8) (knownAt ks j .equate .line)
         (four (knownAt ks j .equate .name .at) ∷ four (length (knownName (knownAt ks j))) ∷ []) _ (s .records) h refl refl
         (omega (arith, fits-at .equate .line, s .text))
 
     pub value-back : equateRecordAt b j .value ≡ valueSoFar (knownAt ks j .found)
-    unfolding fieldBytes le
+    unfolding fieldBytes littleEndian
     value-back =
         let k = knownAt ks j in
         let fits = maybe-value (k .found) (fits-at .found) in
@@ -82,7 +82,7 @@ module _ {t b : List ℕ} {count : ℕ} {ks : List Known} (s : EquateRecords t b
         ∙ signed-back (valueSoFar (k .found)) fits
 
     pub round-back : equateRecordAt b j .round ≡ roundSoFar (knownAt ks j .found)
-    unfolding fieldBytes le
+    unfolding fieldBytes littleEndian
     round-back =
         let k = knownAt ks j in
         read-four knownFields equateSize known-sized b ks noKnown j (j * equateSize + 20) (roundSoFar (k .found))

@@ -34,7 +34,7 @@ use Rattle.layout.specs.code.Orders.{LabelAtFits, LabelTable}
 use Rattle.layout.proofs.Each.{each-map}
 use Rattle.layout.proofs.SpanLaws.{within-size, within-inside}
 use Rattle.layout.proofs.TableLaws.{table-more, table-set}
-use Rattle.layout.proofs.LabelTables.{nameOf, label-sized, names-back, table-indexed}
+use Rattle.layout.proofs.LabelTables.{labelAtName, label-sized, names-back, table-indexed}
 use Rattle.layout.proofs.Kept.{recorded-known, add-label-fits}
 use Rattle.layout.proofs.IndexLaws.{not-among, indexed-more, distinct-more}
 
@@ -67,11 +67,11 @@ module _ {t : List ℕ} {k : Room} {count : ℕ} {b : LabelStore} {ls : List Lab
       }
 
   stand-names : labelNames t (b .records) 0 count ≡ map labelName ls
-  stand-names = names-back stand-table ∙ map-map nameOf coded ls
+  stand-names = names-back stand-table ∙ map-map labelAtName coded ls
 
   pub labels-indexed : LabelsIndexed t (b .records) (b .index) count
   labels-indexed =
-      table-indexed stand-table (b .index) (rw (map-map nameOf coded ls) (s .indexed)) (rw (map-map nameOf coded ls) (s .distinct))
+      table-indexed stand-table (b .index) (rw (map-map labelAtName coded ls) (s .indexed)) (rw (map-map labelAtName coded ls) (s .distinct))
 
 -- ---- what a look-up says of the definition
 
@@ -81,7 +81,7 @@ pub searched : (n : List ℕ) (ls : List Label) {ns : List (List ℕ)} → ns �
 searched n ls names o e = ap (lookupIn n 0) (sym names) ∙ sym e
 
 -- the kth label is the one of x's name: the name's address is its own, and x takes its place
-pub record Known (x : Label) (ls : List Label) (k : ℕ) : Type 0 where
+pub record LabelKnown (x : Label) (ls : List Label) (k : ℕ) : Type 0 where
   pub below : k < length ls
   pub known : isLabel (x .name .bytes) ls ≡ true
   pub address : (base : ℕ) (σ : State) → addressIn base σ ls (x .name .bytes) ≡ some (addressAt base σ (getD ls k x .place))
@@ -94,15 +94,15 @@ pub record New (x : Label) (ls : List Label) : Type 0 where
   pub more : recorded x ls ≡ ls ++ x ∷ []
 
 module _ (x : Label) where
-  known-from : (ls : List Label) (j k : ℕ) → lookupIn (labelName x) j (map labelName ls) ≡ some k → (i : ℕ) × (k ≡ j + i) × Known x ls i
+  known-from : (ls : List Label) (j k : ℕ) → lookupIn (labelName x) j (map labelName ls) ≡ some k → (i : ℕ) × (k ≡ j + i) × LabelKnown x ls i
   unfolding lookupIn isLabel addressIn recorded
   known-from [] j k e = absurd (none-some e)
   known-from (l ∷ ls) j k e = by (same (l .name .bytes) (x .name .bytes)) refl e (known-from ls (suc j) k)
     where
       by : (c : Bool) → same (l .name .bytes) (x .name .bytes) ≡ c
           → _≡_ {A = Option ℕ} (elim c [ true ↦ some j | false ↦ lookupIn (labelName x) (suc j) (map labelName ls) ]) (some k)
-          → (lookupIn (labelName x) (suc j) (map labelName ls) ≡ some k → (i : ℕ) × (k ≡ suc j + i) × Known x ls i)
-          → (i : ℕ) × (k ≡ j + i) × Known x (l ∷ ls) i
+          → (lookupIn (labelName x) (suc j) (map labelName ls) ≡ some k → (i : ℕ) × (k ≡ suc j + i) × LabelKnown x ls i)
+          → (i : ℕ) × (k ≡ j + i) × LabelKnown x (l ∷ ls) i
       by true q e more =
           let p : j ≡ k = cc in (
             0,
@@ -126,7 +126,7 @@ module _ (x : Label) where
             },
           )
 
-  pub look-known : (ls : List Label) (k : ℕ) → lookupIn (labelName x) 0 (map labelName ls) ≡ some k → Known x ls k
+  pub look-known : (ls : List Label) (k : ℕ) → lookupIn (labelName x) 0 (map labelName ls) ≡ some k → LabelKnown x ls k
   look-known ls k e =
       let m = known-from ls 0 k e in
       let q : k ≡ m .0 = omega (arith, m .1) in

@@ -13,7 +13,7 @@ use borrow.Author.Tests.{eqb-true, eqb-false}
 use Rattle.numbers.specs.Text.{same}
 use Rattle.numbers.specs.code.Spans.{spanned}
 use Rattle.layout.specs.declared.records.LabelRecord.{LabelRecord}
-use Rattle.layout.specs.Bytes.{le, together}
+use Rattle.layout.specs.Bytes.{littleEndian, together}
 use Rattle.layout.specs.Limits.{labelSize}
 use Rattle.layout.specs.Pieces.{piece}
 use Rattle.layout.specs.Addresses.{LabelAt}
@@ -70,17 +70,17 @@ module _ (t b n : List ℕ) (count : ℕ) where
 
 -- ---- a table's records and names are its labels'
 
-abbrev pub nameOf : LabelAt → List ℕ
-nameOf x = x .name .bytes
+abbrev pub labelAtName : LabelAt → List ℕ
+labelAtName x = x .name .bytes
 
-abbrev pub recordOf : LabelAt → LabelRecord
-recordOf x = labelRecord (x .name) (x .address) (x .line)
+abbrev pub labelRecordOf : LabelAt → LabelRecord
+labelRecordOf x = labelRecord (x .name) (x .address) (x .line)
 
 noLabelAt : LabelAt
 noLabelAt = record { name = piece 0 []; address = 0; line = 0 }
 
 pub label-sized : (x : LabelAt) → length (fieldBytes (labelRow x)) ≡ labelSize
-unfolding fieldBytes le
+unfolding fieldBytes littleEndian
 label-sized x = refl
 
 module _ {t b : List ℕ} {count : ℕ} {ls : List LabelAt} (s : LabelTable t b count ls) where
@@ -99,7 +99,7 @@ module _ {t b : List ℕ} {count : ℕ} {ls : List LabelAt} (s : LabelTable t b 
   table-fits : (d : LabelAt) (j : ℕ) → j < count → LabelAtFits t (getD ls j d)
   table-fits d j h = each-at (LabelAtFits t) ls d j (s .fits) (omega (arith, s .counted))
 
-  pub label-back : (d : LabelAt) (j : ℕ) → j < count → labelRecordAt b j ≡ recordOf (getD ls j d)
+  pub label-back : (d : LabelAt) (j : ℕ) → j < count → labelRecordAt b j ≡ labelRecordOf (getD ls j d)
   label-back d j h =
       let x = getD ls j d in
       let g = table-fits d j h in
@@ -108,20 +108,20 @@ module _ {t b : List ℕ} {count : ℕ} {ls : List LabelAt} (s : LabelTable t b 
       (omega (arith, s .counted)) refl (omega (arith, g .name .within)) (omega (arith, g .name .within)) (g .address) (omega (arith, g .line)) in
       λ i. record { start = r .0 i; len = r .1 i; address = r .2 i; line = r .3 i }
 
-  name-back : (j : ℕ) → j < count → labelNameAt t b j ≡ nameOf (getD ls j noLabelAt)
+  name-back : (j : ℕ) → j < count → labelNameAt t b j ≡ labelAtName (getD ls j noLabelAt)
   unfolding spanned
   name-back j h =
       ap (λ (r : LabelRecord). spanned t (record { start = r .start; len = r .len })) (label-back noLabelAt j h) ∙ table-fits noLabelAt j h .name .is
 
-  names-from : (n j : ℕ) → j + n ≡ count → labelNames t b j n ≡ map nameOf (drop j ls)
+  names-from : (n j : ℕ) → j + n ≡ count → labelNames t b j n ≡ map labelAtName (drop j ls)
   unfolding labelNames
   names-from zero j e = rw (drop-of-length-le ls {i = j} (omega (arith, s .counted))) refl
   names-from (suc n) j e =
       rw (drop-cons ls j noLabelAt (omega (arith, s .counted)))
       (ap₂ (λ (x : List ℕ) (xs : List (List ℕ)). x ∷ xs) (name-back j (omega arith)) (names-from n (suc j) (omega arith)))
 
-  pub names-back : labelNames t b 0 count ≡ map nameOf ls
+  pub names-back : labelNames t b 0 count ≡ map labelAtName ls
   names-back = names-from count 0 (omega arith)
 
-  pub table-indexed : (ix : List ℕ) → Indexed (map nameOf ls) ix → Distinct (map nameOf ls) → LabelsIndexed t b ix count
+  pub table-indexed : (ix : List ℕ) → Indexed (map labelAtName ls) ix → Distinct (map labelAtName ls) → LabelsIndexed t b ix count
   table-indexed ix i d = record { lent = table-within; indexed = rw names-back i; distinct = rw names-back d }

@@ -28,6 +28,7 @@ pub mod DataLaws
 pub mod ReadingLaws
 pub mod ResultLaws
 pub mod SumLaws
+pub mod RefusalLaws
 pub mod StageOrder
 pub mod RoundHistory
 pub mod RoundLaws
@@ -54,7 +55,9 @@ pub mod EquatesHold
 pub mod FillLaws
 pub mod ItemsHold
 pub mod ConditionLaws
+pub mod AnswerLaws
 pub mod DemandLaws
+pub mod Unchained
 pub mod HeldLaws
 pub mod CallLaws
 pub mod Computing
@@ -63,3 +66,4 @@ pub mod RecordCases
 pub mod DemandCases
 pub mod DemandPremises
 pub mod DemandRefuted
+pub mod CallRefuted

@@ -24,7 +24,7 @@ use Rattle.layout.specs.Statements.{sectionLine, symbolAfter, equateOf, 
 use Rattle.layout.specs.Statements.{onRow, unlabelledOf, Line, labelled, parsed, lineOf}
 use Rattle.layout.specs.code.Rows.{FewZeros, DirectiveFits, rowCode, SpelledWithin}
 use Rattle.layout.specs.code.Fits.{Inside}
-use Rattle.layout.proofs.DirectiveLaws.{directives-numbered, row-within}
+use Rattle.layout.proofs.DirectiveLaws.{directives-small, row-within}
 use Rattle.layout.proofs.Each.{cond-has}
 use Rattle.layout.proofs.Gives.{Gives}
 use Rattle.layout.proofs.SpanLaws.{count-within}
@@ -151,7 +151,7 @@ module _ (t : List ℕ) where
 
   pub unlabelled-inside : (s : Section) (p : Piece) → Inside t p → SaysInside (unlabelledOf s p)
   unfolding unlabelledOf
-  unlabelled-inside s p g = either (isEmpty p) _ _ tt (row-inside (rowIn directives (p .bytes)) s p (row-within directives (p .bytes) directives-numbered) g)
+  unlabelled-inside s p g = either (isEmpty p) _ _ tt (row-inside (rowIn directives (p .bytes)) s p (row-within directives (p .bytes) directives-small) g)
 
   -- ---- lines
 

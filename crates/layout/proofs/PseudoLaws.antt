@@ -1,5 +1,5 @@
 -- Pseudo-instructions: a line's item by its first word's place in the table of spellings, for any table; an li's words; an item by its kind.
-use Prim.Native.Nat.{ℕ, zero, suc, min, _+_, _*_, _≤_, _<_}
+use Prim.Native.Nat.{ℕ, zero, suc, _+_, _*_, _≤_, _<_}
 use native.Mathlib.Omega.{arith}
 use mathlib.Core.Path.{_≡_, refl, sym, ap, _∙_}
 use mathlib.Core.List.{List, [], _∷_, map}
@@ -22,10 +22,10 @@ use Rattle.numbers.proofs.Rows.{column-of}
 use Rattle.numbers.proofs.Parts.{items-spaced, item-step, item-end, items-all}
 use Rattle.layout.specs.declared.pseudo.Pseudo.{Pseudo}
 use Rattle.layout.specs.declared.pseudo.Pseudo.the-variants.{Li, La, Push, Pop, Print, PrintStr, Read, ReadByte, Random}
-use Rattle.layout.specs.declared.pseudo.LineKind.{LineKind}
 use Rattle.layout.specs.declared.pseudo.LineKind.the-variants as kind
-use Rattle.layout.specs.Pseudos.{Item, ordinary, pseudo, other, Spelling, spellings, itemIn, liNumber, liWords, itemKind}
-use Rattle.layout.specs.code.Kinds.{itemNumber, SpellingTable, beginsAsPseudo, kindCode, kindItem, kindSource, kindNumber}
+use Rattle.layout.specs.declared.pseudo.TextLine.the-variants as line
+use Rattle.layout.specs.Pseudos.{Item, ordinary, pseudo, other, Spelling, spellings, itemIn, liNumber, liWords, pseudoKind, itemKind}
+use Rattle.layout.specs.code.Kinds.{itemNumber, SpellingTable, beginsAsPseudo, textLineCode}
 
 -- ---- one spelling
 
@@ -129,58 +129,70 @@ item-row [] i t h = absurd (omega arith)
 item-row (x ∷ xs) zero t h = refl
 item-row (x ∷ xs) (suc i) t h = item-row xs i t (omega arith)
 
+-- ---- an item's kind
+
+pub kind-small : (o : Option Pseudo) → itemKind o ≤ 9
+kind-small none = omega arith
+kind-small (some Li) = omega arith
+kind-small (some La) = omega arith
+kind-small (some Push) = omega arith
+kind-small (some Pop) = omega arith
+kind-small (some Print) = omega arith
+kind-small (some PrintStr) = omega arith
+kind-small (some Read) = omega arith
+kind-small (some ReadByte) = omega arith
+kind-small (some Random) = omega arith
+
+-- it tells the item
+abbrev fromKind : ℕ → Option Pseudo
+fromKind n =
+    getD (none ∷ some Li ∷ some La ∷ some Push ∷ some Pop ∷ some Print ∷ some PrintStr ∷ some Read ∷ some ReadByte ∷ some Random ∷ []) n none
+
+kind-back : (o : Option Pseudo) → fromKind (itemKind o) ≡ o
+kind-back none = refl
+kind-back (some Li) = refl
+kind-back (some La) = refl
+kind-back (some Push) = refl
+kind-back (some Pop) = refl
+kind-back (some Print) = refl
+kind-back (some PrintStr) = refl
+kind-back (some Read) = refl
+kind-back (some ReadByte) = refl
+kind-back (some Random) = refl
+
+pub item-told : (x y : Option Pseudo) → itemKind x ≡ itemKind y → x ≡ y
+item-told x y e = sym (kind-back x) ∙ ap fromKind e ∙ kind-back y
+
 -- ---- the code's columns
-
--- a kind is told by its number and its source
-abbrev fromNumber : ℕ → Span → LineKind
-fromNumber n q =
-    getD (kind.Unsupported q ∷ kind.Pseudo Li q ∷ kind.Pseudo La q ∷ kind.Pseudo Push q ∷ kind.Pseudo Pop q ∷ kind.Pseudo Print q
-    ∷ kind.Pseudo PrintStr q ∷ kind.Pseudo Read q ∷ kind.Pseudo ReadByte q ∷ kind.Pseudo Random q ∷ []) n (kind.Instr q)
-
-number-back : (k : LineKind) → fromNumber (kindNumber k) (kindSource k) ≡ k
-number-back (kind.Unsupported q) = refl
-number-back (kind.Pseudo Li q) = refl
-number-back (kind.Pseudo La q) = refl
-number-back (kind.Pseudo Push q) = refl
-number-back (kind.Pseudo Pop q) = refl
-number-back (kind.Pseudo Print q) = refl
-number-back (kind.Pseudo PrintStr q) = refl
-number-back (kind.Pseudo Read q) = refl
-number-back (kind.Pseudo ReadByte q) = refl
-number-back (kind.Pseudo Random q) = refl
-number-back (kind.Instr q) = refl
-
-number-tells : (a b : LineKind) → kindNumber a ≡ kindNumber b → kindSource a ≡ kindSource b → a ≡ b
-number-tells a b e f = sym (number-back a) ∙ rw (e, f) (number-back b)
-
-pub source-back : (i : Item) (q : Span) → kindSource (kindCode i q) ≡ q
-source-back ordinary q = refl
-source-back (pseudo p) q = refl
-source-back other q = refl
 
 flag-back : (b : Bool) → eqb (cond b 1 0) 0 ≡ not b
 flag-back true = refl
 flag-back false = refl
 
-item-number : (i : Item) (q : Span) → itemNumber i ≡ kindNumber (kindCode i q)
-item-number ordinary q = refl
-item-number (pseudo p) q = refl
-item-number other q = refl
+number-small : (i : Item) → itemNumber i ≤ 9
+number-small ordinary = omega arith
+number-small (pseudo p) = kind-small (some p)
+number-small other = omega arith
 
--- every number is one that `kind_numbered` tells apart
-abbrev Numbered : List Spelling → Type 0
-Numbered xs = map (λ x. min (itemNumber (x .item)) 9) xs ≡ map (λ x. itemNumber (x .item)) xs
+-- no spelling names an ordinary line
+abbrev isNamed : Item → Bool
+isNamed ordinary = false
+isNamed (pseudo p) = true
+isNamed other = true
 
-pub spellings-numbered : Numbered spellings
+abbrev Named : List Spelling → Type 0
+Named xs = map (λ x. isNamed (x .item)) xs ≡ map (λ x. true) xs
+
+pub spellings-named : Named spellings
 unfolding spellings
-spellings-numbered = refl
+spellings-named = refl
 
 -- the row that the code finds: none, one that may not end the line, or one whose columns say what it is
 module _ (q : Span) (xs : List Spelling) (t s : List ℕ) (table : SpellingTable xs t) (ok : sound xs ≡ true) (i : ℕ) (at : i ≡ indexIn (rows (length xs) t) (before 32 s)) where
   placed : itemIn xs s ≡ listedItem xs i (endsLine s)
   placed = rw (rw (table .names) at at) (item-indexed xs s ok)
 
-  pub line-plain : length xs ≤ i → kind.Instr q ≡ kindCode (itemIn xs s) q
+  pub line-plain : length xs ≤ i → line.Item (kind.Instr q) ≡ textLineCode (itemIn xs s) q
   line-plain h = rw (placed, item-none xs i (endsLine s) h) refl
 
   module _ (h : i < length xs) where
@@ -193,18 +205,37 @@ module _ (q : Span) (xs : List Spelling) (t s : List ℕ) (table : SpellingTable
         ap (λ (k : ℕ). eqb k 0) (column-of (λ (x : Spelling). cond (x .bare) 1 0) xs noSpelling 15 i t (table .bares) h) ∙ flag-back (found .bare) in
         placed ∙ item-row xs i (endsLine s) h ∙ rw (rw bare at e) refl
 
-    pub line-ended : endsLine s && eqb (getD t (i * 16 + 15) 0) 0 ≡ true → kind.Instr q ≡ kindCode (itemIn xs s) q
+    pub line-ended : endsLine s && eqb (getD t (i * 16 + 15) 0) 0 ≡ true → line.Item (kind.Instr q) ≡ textLineCode (itemIn xs s) q
     line-ended e = rw (rowed true e) refl
 
-    pub line-named : endsLine s && eqb (getD t (i * 16 + 15) 0) 0 ≡ false → Numbered xs
-        → (r : LineKind) → (kindNumber r ≡ min (getD t (i * 16 + 14) 0) 9) × (kindSource r ≡ q) → r ≡ kindCode (itemIn xs s) q
-    line-named e small r is =
-        number-tells r (kindCode (itemIn xs s) q)
-        (is .0 ∙ ap (λ (k : ℕ). min k 9) (column-of (λ (x : Spelling). itemNumber (x .item)) xs noSpelling 14 i t (table .kinds) h)
-        ∙ sym (List·getD-map (λ (x : Spelling). min (itemNumber (x .item)) 9) xs i noSpelling) ∙ ap (λ (l : List ℕ). getD l i 0) small
-        ∙ List·getD-map (λ (x : Spelling). itemNumber (x .item)) xs i noSpelling
-        ∙ sym (ap itemNumber (rowed false e)) ∙ item-number (itemIn xs s) q)
-        (is .1 ∙ sym (source-back (itemIn xs s) q))
+    number-is : getD t (i * 16 + 14) 0 ≡ itemNumber (found .item)
+    number-is = column-of (λ (x : Spelling). itemNumber (x .item)) xs noSpelling 14 i t (table .kinds) h
+
+    pub number-few : getD t (i * 16 + 14) 0 ≤ 9
+    number-few = rw number-is (number-small (found .item))
+
+    module _ (e : endsLine s && eqb (getD t (i * 16 + 15) 0) 0 ≡ false) where
+      pub line-other : Named xs → getD t (i * 16 + 14) 0 ≡ 0 → line.Unsupported ≡ textLineCode (itemIn xs s) q
+      line-other named z = rw (rowed false e) (by (found .item) is (sym number-is ∙ z))
+        where
+          is : isNamed (found .item) ≡ true
+          is =
+              sym (List·getD-map (λ (x : Spelling). isNamed (x .item)) xs i noSpelling) ∙ ap (λ (l : List Bool). getD l i true) named
+              ∙ List·getD-map (λ (x : Spelling). true) xs i noSpelling
+
+          by : (j : Item) → isNamed j ≡ true → itemNumber j ≡ 0 → line.Unsupported ≡ textLineCode j q
+          by ordinary n z = absurd (false≢true n)
+          by (pseudo p) n z = let o = item-told (some p) none z in cc
+          by other n z = refl
+
+      pub line-pseudo : (getD t (i * 16 + 14) 0 ≡ 0 → ⊥) → (p : Pseudo) → pseudoKind p ≡ getD t (i * 16 + 14) 0
+          → line.Item (kind.Pseudo p q) ≡ textLineCode (itemIn xs s) q
+      line-pseudo n p z = rw (rowed false e) (by (found .item) (λ o. n (number-is ∙ o)) (z ∙ number-is))
+        where
+          by : (j : Item) → (itemNumber j ≡ 0 → ⊥) → pseudoKind p ≡ itemNumber j → line.Item (kind.Pseudo p q) ≡ textLineCode j q
+          by ordinary m z = absurd (m refl)
+          by (pseudo r) m z = let o = item-told (some p) (some r) z in cc
+          by other m z = absurd (m refl)
 
 -- ---- the first letter
 
@@ -253,27 +284,3 @@ module _ (t : List ℕ) where
     pub li-two : (q : Span) (after : ℕ) → itemOperandAt t next ≡ At q after → liWords (itemOperands (oneSpaced t)) ≡ liNumber (spacedImmOf (spanned t q))
     unfolding spacedImmOf
     li-two q after f = rw (li-operands, item-step t 0 p next e, item-step t next q after f) refl
-
--- ---- an item's kind read back
-
--- what a row's number names, where it is an item's
-pub item-numbered : (r : LineKind) (n : ℕ) → kindNumber r ≡ min n 9 → (n ≡ 0 → ⊥) → n ≤ 9 → itemKind (kindItem r) ≡ n
-item-numbered (kind.Instr q) n e h k = absurd (omega arith)
-item-numbered (kind.Pseudo p q) n e h k = omega (arith, e)
-item-numbered (kind.Unsupported q) n e h k = absurd (h (omega (arith, e)))
-
--- an item is told by its kind
-abbrev numbered : Option Pseudo → Span → LineKind
-numbered none q = kind.Unsupported q
-numbered (some p) q = kind.Pseudo p q
-
-numbered-back : (x : Option Pseudo) (q : Span) → (kindItem (numbered x q) ≡ x) × (kindNumber (numbered x q) ≡ itemKind x) × (kindSource (numbered x q) ≡ q)
-numbered-back none q = (refl, refl, refl)
-numbered-back (some p) q = (refl, refl, refl)
-
-pub item-told : (x y : Option Pseudo) → itemKind x ≡ itemKind y → x ≡ y
-item-told x y e =
-    let q : Span = record { start = 0; len = 0 } in
-    let a = numbered-back x q in
-    let b = numbered-back y q in
-    sym (a .0) ∙ ap kindItem (number-tells (numbered x q) (numbered y q) (a .1 ∙ e ∙ sym (b .1)) (a .2 ∙ sym (b .2))) ∙ b .0

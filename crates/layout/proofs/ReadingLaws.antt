@@ -14,7 +14,7 @@ use Rattle.numbers.specs.declared.text.Span.{Span}
 use Rattle.numbers.specs.code.Spans.{spanned}
 use Rattle.numbers.specs.declared.operands.Operand.the-variants.{At, End}
 use Rattle.numbers.specs.code.Cursors.{operandAt}
-use Rattle.numbers.specs.code.Shorts.{ShortMeans}
+use Rattle.numbers.proofs.Shorts.{ShortMeans}
 use Rattle.numbers.proofs.Parts.{operand-step, operand-end, operands-all, operand-bounds}
 use Rattle.layout.specs.declared.limits.Room.{Room}
 use Rattle.layout.specs.declared.directives.Width.{Width}
@@ -30,11 +30,11 @@ use Rattle.layout.specs.Directives.{Write, gap, reservation, readAt, num
 use Rattle.layout.specs.Stage.{dataWrite, dataLine}
 use Rattle.layout.specs.code.Spans.{SpanWithin}
 use Rattle.layout.specs.code.Writes.{readingAt, ReadingFits, sourceReadings, onceFrom, readingsFrom, nextCode, NextIs}
-use Rattle.layout.specs.code.Steps.{Some, Agrees}
+use Rattle.layout.specs.code.Steps.{Some}
 use Rattle.layout.specs.code.Stands.{DataStore, StoredStand, dataStore}
-use Rattle.layout.proofs.DataLaws.{DataSteps}
+use Rattle.layout.proofs.DataLaws.{StoredSteps}
 use Rattle.layout.proofs.SpanLaws.{spanned-size, part-back}
-use Rattle.layout.proofs.StepLaws.{then-stop}
+use Rattle.layout.proofs.StepLaws.{agreed, then-stop}
 
 -- ---- what is read next
 
@@ -129,25 +129,25 @@ module _ (t : List ℕ) (k : Room) (line : ℕ) (x : Source) (s : List ℕ) (c�
     writing-some = let h = g .left (g .first .it) (g .first .stands) in record { it = h .state; stands = h .stands }
 
     -- no reading is left
-    pub writing-ends : readingsFrom x s at ≡ [] → DataSteps t k c₀ m₀ l₀ (value c) m l (dataLine k line (sourceReadings x s))
+    pub writing-ends : readingsFrom x s at ≡ [] → StoredSteps t k c₀ m₀ l₀ (value c) m l (dataLine k line (sourceReadings x s))
     unfolding dataLine
     writing-ends e σ i = let h = g .left σ i in rw (← h .goes, e) (h .stands)
 
     -- the next one is refused
     pub writing-refused : (n : ℕ) → Some (λ rs. readingsFrom x s at ≡ refused n ∷ rs)
-        → DataSteps t k c₀ m₀ l₀ (refused n) m l (dataLine k line (sourceReadings x s))
+        → StoredSteps t k c₀ m₀ l₀ (refused n) m l (dataLine k line (sourceReadings x s))
     unfolding dataLine
     writing-refused n e σ i = rw (← g .left σ i .goes, e .stands) refl
 
     module _ (w : Write) (next : ℕ) (e : readingsFrom x s at ≡ value w ∷ readingsFrom x s next)
-        (m′ l′ : List ℕ) (o : Result ℕ DataCount) (h : DataSteps t k c m l o m′ l′ (dataWrite k line w)) where
+        (m′ l′ : List ℕ) (o : Result ℕ DataCount) (h : StoredSteps t k c m l o m′ l′ (dataWrite k line w)) where
       after : (σ : Stored) (i : StoredStand t k c₀ (dataStore m₀ l₀) σ)
           → andThen (dataWrite k line w (g .left σ i .state)) (dataLine k line (readingsFrom x s next)) ≡ dataLine k line (sourceReadings x s) σ
       unfolding dataLine
       after σ i = rw e at (g .left σ i .goes)
 
       -- what it writes is refused
-      pub writing-stops : (n : ℕ) → o ≡ refused n → DataSteps t k c₀ m₀ l₀ (refused n) m′ l′ (dataLine k line (sourceReadings x s))
+      pub writing-stops : (n : ℕ) → o ≡ refused n → StoredSteps t k c₀ m₀ l₀ (refused n) m′ l′ (dataLine k line (sourceReadings x s))
       writing-stops n q σ i =
           rw (← after σ i)
           (then-stop (λ d. StoredStand t k d (dataStore m′ l′)) (λ d. StoredStand t k d (dataStore m′ l′)) o
@@ -162,11 +162,6 @@ module _ (t : List ℕ) (k : Room) (line : ℕ) (x : Source) (s : List ℕ) (c�
             same-words = same-l ∙ g .same-words;
             first = g .first;
             left = λ σ i.
-                by (dataWrite k line w (g .left σ i .state)) _ (rw q at (h (g .left σ i .state) (g .left σ i .stands))) (after σ i);
+                let a = agreed (λ d. StoredStand t k d (dataStore m′ l′)) c′ (dataWrite k line w (g .left σ i .state)) (rw q at (h (g .left σ i .state) (g .left σ i .stands))) in
+                record { state = a .it; stands = a .stands; goes = rw (a .is) at (after σ i) };
           }
-        where
-          by : (a : Result ℕ Stored) (whole : Result ℕ Stored) → Agrees (λ d. StoredStand t k d (dataStore m′ l′)) (value c′) a
-              → andThen a (dataLine k line (readingsFrom x s next)) ≡ whole
-              → Left t k line (readingsFrom x s next) whole c′ (dataStore m′ l′)
-          by (value τ) whole a q = record { state = τ; stands = a; goes = q }
-          by (refused n) whole a q = absurd a

@@ -15,14 +15,14 @@ use Rattle.layout.specs.declared.records.ItemRecord.{ItemRecord}
 use Rattle.layout.specs.declared.records.ExprRecord.{ExprRecord}
 use Rattle.layout.specs.declared.records.LabelWordRecord.{LabelWordRecord}
 use Rattle.layout.specs.Limits.{Lent, full, roomOf, labelSize, equateSize, itemSize}
-use Rattle.layout.specs.Records.{fieldBytes, labelFields, equateFields, itemFields, leValue, labelRecordAt, equateRecordAt, itemRecordAt}
+use Rattle.layout.specs.Records.{fieldBytes, labelFields, equateFields, itemFields, littleEndianValue, labelRecordAt, equateRecordAt, itemRecordAt}
 use Rattle.layout.specs.code.Tables.{exprSize, labelWordSize, exprFields, labelWordFields}
 use Rattle.layout.specs.code.Tables.{exprRecordAt, labelWordRecordAt}
 use Rattle.layout.specs.Directives.{addressOf}
 use Rattle.layout.specs.Stage.{addLabelWord}
 use Rattle.layout.specs.Layouts.{layoutOf, callOf}
 use Rattle.layout.proofs.Computing.{computing}
-use Rattle.layout.proofs.TwelveCases.{laid, dataOf, no}
+use Rattle.layout.proofs.TwelveCases.{laid, laidData, no}
 
 -- ---- whole answers
 
@@ -164,18 +164,18 @@ pub read-back-cases :
     exprRecordAt (replicate exprSize 9 ++ fieldBytes (exprFields r)) 1 ≡ r)
     × (let r : LabelWordRecord = record { at = 65532; start = 65535; len = 3; line = 65536 } in
     labelWordRecordAt (replicate labelWordSize 9 ++ fieldBytes (labelWordFields r)) 1 ≡ r)
-unfolding computing leValue
+unfolding computing littleEndianValue
 read-back-cases = (refl, refl, refl, refl, refl, refl)
 
 -- ---- data
 
 pub data-cases :
-    (dataOf (text ".data\n.dword -2\n.string \"a b\"\n.ascii \"c\" ; \"\n.zero 2\n.byte 'd'\n.word -3")
+    (laidData (text ".data\n.dword -2\n.string \"a b\"\n.ascii \"c\" ; \"\n.zero 2\n.byte 'd'\n.word -3")
     ≡ value (0xFE ∷ 0xFF ∷ 0xFF ∷ 0xFF ∷ 0xFF ∷ 0xFF ∷ 0xFF ∷ 0xFF ∷ 97 ∷ 32 ∷ 98 ∷ 0 ∷ 99 ∷ 0 ∷ 0 ∷ 100 ∷ 0xFD ∷ 0xFF ∷ 0xFF ∷ 0xFF ∷ []))
     -- labels of data, bss and text, above and below
-    × (dataOf (text "nop\nc:\n.section .rodata,x\na: .word b, 7, a, c\n.section sbss\n.skip 9\nb:")
+    × (laidData (text "nop\nc:\n.section .rodata,x\na: .word b, 7, a, c\n.section sbss\n.skip 9\nb:")
     ≡ value (0x19 ∷ 0x10 ∷ 0 ∷ 0 ∷ 7 ∷ 0 ∷ 0 ∷ 0 ∷ 0 ∷ 0x10 ∷ 0 ∷ 0 ∷ 4 ∷ 0 ∷ 0 ∷ 0 ∷ []))
-    × (dataOf (text ".data\n.section .note.GNU-stack,x\n.type a, b\n.globl a\n.bytes") ≡ no 6 4)
+    × (laidData (text ".data\n.section .note.GNU-stack,x\n.type a, b\n.globl a\n.bytes") ≡ no 6 4)
 unfolding computing
 data-cases = (refl, refl, refl)
 

@@ -13,7 +13,7 @@ use borrow.Author.Tests.{eqb-true, eqb-false}
 use Rattle.numbers.specs.Results.{Result, value, refused, andThen}
 use Rattle.numbers.specs.Text.{same}
 use Rattle.numbers.proofs.Bools.{none-some}
-use Rattle.layout.specs.Refusals.{Refusal, atLine}
+use Rattle.layout.specs.Refusals.{Refusal, atLine, isIn, turnNumbers}
 use Rattle.layout.specs.Statements.{exprText}
 use Rattle.layout.specs.Expressions.{Evaluated, evaluate, positive, term, tokens}
 use Rattle.layout.specs.State.{Label, Equate, State}
@@ -27,17 +27,16 @@ use Rattle.layout.specs.Chains.{Among, first, later, nameOf}
 use Rattle.layout.proofs.ResultLaws.{value-refused, refused-same}
 use Rattle.layout.proofs.Gives.{Comes, comes-so, and-then-comes}
 use Rattle.layout.proofs.SumLaws.{SaidOf, Summed, Waits, evaluated-says, summed-whole, sum-more}
-use Rattle.layout.proofs.StageOrder.{isEarly, Early}
-use Rattle.layout.proofs.RoundHistory.{At, shown, pending-all, equates-all, triangle, triangle-more, given, spent, start-spent, Steps, no-more, kept, gained, waiting, steps-equates}
+use Rattle.layout.proofs.RoundHistory.{At, shown, pending-all, equates-all, triangle, triangle-more, given, spent, start-spent, RoundTurns, no-more, kept, gained, waiting, steps-equates}
 use Rattle.layout.proofs.RoundHistory.{steps-fewer, steps-spent, steps-still, History, history-low, history-start, history-next, AllFound, Stuck}
 use Rattle.layout.proofs.RoundLaws.{none-all, some-one, seen-some, Free, Has, Evaluator, told, found-free, same-one}
 
 -- ---- labels by address
 
-pub no-address : (base : ℕ) (σ : State) (ls : List Label) (n : List ℕ) → isLabel n ls ≡ false → addressIn base σ ls n ≡ none
+pub no-label-address : (base : ℕ) (σ : State) (ls : List Label) (n : List ℕ) → isLabel n ls ≡ false → addressIn base σ ls n ≡ none
 unfolding addressIn isLabel
-no-address base σ [] n e = refl
-no-address base σ (l ∷ ls) n e = by (same (l .name .bytes) n) e (no-address base σ ls n)
+no-label-address base σ [] n e = refl
+no-label-address base σ (l ∷ ls) n e = by (same (l .name .bytes) n) e (no-label-address base σ ls n)
   where
     by : (c : Bool) → c || isLabel n ls ≡ false → (isLabel n ls ≡ false → addressIn base σ ls n ≡ none)
         → _≡_ {A = Option ℕ} (elim c [ true ↦ some (addressAt base σ (l .place)) | false ↦ addressIn base σ ls n ]) none
@@ -61,7 +60,7 @@ label-is base σ n a e = by (isLabel n (σ .labels)) refl
   where
     by : (c : Bool) → isLabel n (σ .labels) ≡ c → isLabel n (σ .labels) ≡ true
     by true q = q
-    by false q = absurd (none-some (sym (no-address base σ (σ .labels) n q) ∙ e))
+    by false q = absurd (none-some (sym (no-label-address base σ (σ .labels) n q) ∙ e))
 
 label-not : (base : ℕ) (σ : State) (n : List ℕ) → labelAddress base σ n ≡ none → isLabel n (σ .labels) ≡ false
 label-not base σ n e = by (isLabel n (σ .labels)) refl
@@ -73,13 +72,13 @@ label-not base σ n e = by (isLabel n (σ .labels)) refl
 -- ---- a turn
 
 module _ (base : ℕ) (σ : State) where
-  abbrev pub placeOf : Equate → ℤ
-  placeOf e = pos (addressAt base σ (e .place))
+  abbrev pub ownAddressOf : Equate → ℤ
+  ownAddressOf e = pos (addressAt base σ (e .place))
 
   -- its evaluation, where the name is no label and has no value yet
   pub record Tried (S : List Known) (e : Equate) (v : Evaluated) : Type 0 where
     pub free : Free σ S e
-    pub evaluated : evaluate (look base σ S) (placeOf e) (exprText (e .expr)) ≡ v
+    pub evaluated : evaluate (look base σ S) (ownAddressOf e) (exprText (e .expr)) ≡ v
 
   -- or 14 or 15
   pub data TurnSays (S : List Known) (e : Equate) (v : Evaluated) : Type 0 where
@@ -92,7 +91,7 @@ module _ (base : ℕ) (σ : State) where
   turn-says S e v q = by (isLabel (nameOf e) (σ .labels)) refl (constant S (nameOf e)) refl q
     where
       x : Evaluated
-      x = evaluate (look base σ S) (placeOf e) (exprText (e .expr))
+      x = evaluate (look base σ S) (ownAddressOf e) (exprText (e .expr))
 
       by : (c : Bool) → isLabel (nameOf e) (σ .labels) ≡ c → (o : Option ℤ) → constant S (nameOf e) ≡ o
           → elim c [ true ↦ refused 14 | false ↦ elim (isSome o) [ true ↦ refused 15 | false ↦ x ] ] ≡ v → TurnSays S e v
@@ -110,28 +109,28 @@ module _ (base : ℕ) (σ : State) where
       by (tries t) = t
 
   -- what the evaluation of an expression says
-  abbrev Said : List Known → Equate → Evaluated → Type 0
-  Said S e v = SaidOf (look base σ S) (placeOf e) (pos 0) (term positive positive) (tokens (exprText (e .expr))) v
+  abbrev TurnSaid : List Known → Equate → Evaluated → Type 0
+  TurnSaid S e v = SaidOf (look base σ S) (ownAddressOf e) (pos 0) (term positive positive) (tokens (exprText (e .expr))) v
 
   -- of a value
   abbrev pub Sums : List Known → Equate → ℤ → Type 0
-  Sums S e z = Summed (look base σ S) (placeOf e) (pos 0) (term positive positive) (tokens (exprText (e .expr))) z
+  Sums S e z = Summed (look base σ S) (ownAddressOf e) (pos 0) (term positive positive) (tokens (exprText (e .expr))) z
 
-  pub turn-said : (S : List Known) (e : Equate) (v : Evaluated) → Tried S e v → Said S e v
-  turn-said S e v t = rw (t .evaluated) at (evaluated-says (look base σ S) (placeOf e) (exprText (e .expr)))
+  pub turn-said : (S : List Known) (e : Equate) (v : Evaluated) → Tried S e v → TurnSaid S e v
+  turn-said S e v t = rw (t .evaluated) at (evaluated-says (look base σ S) (ownAddressOf e) (exprText (e .expr)))
 
-  -- a turn's refusal is neither 0 nor 17
-  pub turn-early : (S : List Known) (e : Equate) (m : ℕ) → turn base σ S e ≡ refused m → Early m
-  turn-early S e m q = by (turn-says S e (refused m) q)
+  -- a turn's refusal is one of its own
+  pub turn-numbered : (S : List Known) (e : Equate) (m : ℕ) → turn base σ S e ≡ refused m → isIn turnNumbers m ≡ true
+  turn-numbered S e m q = by (turn-says S e (refused m) q)
     where
-      by : TurnSays S e (refused m) → Early m
-      by (named-label p l) = ap isEarly (refused-same p)
-      by (named-again p l) = ap isEarly (refused-same p)
+      by : TurnSays S e (refused m) → isIn turnNumbers m ≡ true
+      by (named-label p l) = ap (isIn turnNumbers) (refused-same p)
+      by (named-again p l) = ap (isIn turnNumbers) (refused-same p)
       by (tries t) = last (turn-said S e (refused m) t)
         where
-          last : Said S e (refused m) → Early m
-          last (inl p) = ap isEarly (p .0)
-          last (inr p) = ap isEarly p
+          last : TurnSaid S e (refused m) → isIn turnNumbers m ≡ true
+          last (inl p) = ap (isIn turnNumbers) (p .0)
+          last (inr p) = ap (isIn turnNumbers) p
 
   -- what is looked up has a value
   looked : (S : List Known) (n : List ℕ) (z : ℤ) → look base σ S n ≡ some z
@@ -172,7 +171,7 @@ module _ (base : ℕ) (σ : State) where
             looked-has S n (v .0) (v .1);
         wait-free = λ S e q. tried S e none q .free;
         wait-lacks = λ S e q.
-            let s : Waits (look base σ S) (placeOf e) (tokens (exprText (e .expr))) = turn-said S e (value none) (tried S e none q) in
+            let s : Waits (look base σ S) (ownAddressOf e) (tokens (exprText (e .expr))) = turn-said S e (value none) (tried S e none q) in
             let b = looked-none S (s .lacked) (s .unknown) in
             record { lacked = s .lacked; used = s .used; noLabel = b .1; unfound = b .0 };
       }
@@ -191,14 +190,14 @@ module _ (base : ℕ) (σ : State) where
   pub record PassIs (r : ℕ) (done ks : List Known) (n : ℕ) (x : Turns) : Type 0 where
     pub after : List Known
     pub are : x .known ≡ done ++ after
-    pub steps : Steps (turn base σ) r done ks after
+    pub steps : RoundTurns (turn base σ) r done ks after
     pub evaluated : x .evaluations ≡ n + pendingCount ks
 
   -- of the first of them
   record FirstIs (r : ℕ) (done : List Known) (k : Known) (ks : List Known) (n : ℕ) (x : Turns) : Type 0 where
     now : Known
     are : x .known ≡ done ++ now ∷ []
-    steps : (ls : List Known) → Steps (turn base σ) r (done ++ now ∷ []) ks ls → Steps (turn base σ) r done (k ∷ ks) (now ∷ ls)
+    steps : (ls : List Known) → RoundTurns (turn base σ) r (done ++ now ∷ []) ks ls → RoundTurns (turn base σ) r done (k ∷ ks) (now ∷ ls)
     evaluated : x .evaluations + pendingCount ks ≡ n + pendingCount (k ∷ ks)
 
   first-is : (r : ℕ) (done : List Known) (k : Known) (ks : List Known) (n : ℕ)
@@ -263,7 +262,7 @@ module _ (base : ℕ) (σ : State) where
           → RoundsCome es (rounds base σ fuel (suc (suc R)) ls m)
 
       next : (x : Turns) (c : Bool) → eqb (pendingCount (x .known)) (pendingCount ks) ≡ c → (pendingCount ks ≡ 0 → ⊥)
-          → Steps (turn base σ) (suc R) [] ks (x .known) → x .evaluations ≡ n + pendingCount ks → More
+          → RoundTurns (turn base σ) (suc R) [] ks (x .known) → x .evaluations ≡ n + pendingCount ks → More
           → RoundsCome es (elim c [ true ↦ refused (unresolved (x .known)) | false ↦ rounds base σ fuel (suc (suc R)) (x .known) (x .evaluations) ])
       next x true q z st c more =
           let u = eqb-true (pendingCount (x .known)) (pendingCount ks) q in
@@ -337,7 +336,7 @@ module _ (base : ℕ) (σ : State) where
 
     -- an equate's value is its signed sum under what is known then
     pub sum-final : {i : ℕ} {k : Known} (f : Found) → At F i k → k .found ≡ some f
-        → (ts : List Term) × (termsOf (k .equate) ≡ some ts) × (signedSum (look base σ F) (placeOf (k .equate)) ts ≡ some (f .value))
+        → (ts : List Term) × (termsOf (k .equate) ≡ some ts) × (signedSum (look base σ F) (ownAddressOf (k .equate)) ts ≡ some (f .value))
     sum-final {i} {k} f a e =
         let S = shown (f .round) i 0 F in
         let q = told σ (turn base σ) own-evaluator R F H f a e .gave in
@@ -345,6 +344,6 @@ module _ (base : ℕ) (σ : State) where
         turn-said S (k .equate) (value (some (f .value))) (tried S (k .equate) (some (f .value)) q) in (
           s .terms,
           s .are,
-          sum-more (look base σ S) (look base σ F) (placeOf (k .equate)) (seen-final (f .round) i) (s .terms) (f .value)
-              (summed-whole (look base σ S) (placeOf (k .equate)) (term positive positive) (tokens (exprText (k .equate .expr))) (f .value) s),
+          sum-more (look base σ S) (look base σ F) (ownAddressOf (k .equate)) (seen-final (f .round) i) (s .terms) (f .value)
+              (summed-whole (look base σ S) (ownAddressOf (k .equate)) (term positive positive) (tokens (exprText (k .equate .expr))) (f .value) s),
         )

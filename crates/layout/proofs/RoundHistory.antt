@@ -176,29 +176,29 @@ spent R (k ∷ ks) = elim (k .found) [ none ↦ R + spent R ks | some f ↦ f .r
 
 module _ (turn : List Known → Equate → Evaluated) where
   -- round r, equate by equate: those done, those to come before their turns and after
-  pub data Steps (r : ℕ) : List Known → List Known → List Known → Type 0 where
-    no-more : {done : List Known} → Steps r done [] []
-    kept : {done ks ls : List Known} {k : Known} (f : Found) → k .found ≡ some f → Steps r (done ++ k ∷ []) ks ls → Steps r done (k ∷ ks) (k ∷ ls)
+  pub data RoundTurns (r : ℕ) : List Known → List Known → List Known → Type 0 where
+    no-more : {done : List Known} → RoundTurns r done [] []
+    kept : {done ks ls : List Known} {k : Known} (f : Found) → k .found ≡ some f → RoundTurns r (done ++ k ∷ []) ks ls → RoundTurns r done (k ∷ ks) (k ∷ ls)
     gained : {done ks ls : List Known} {k : Known} (z : ℤ) → k .found ≡ none → turn (done ++ k ∷ ks) (k .equate) ≡ value (some z)
-        → Steps r (done ++ given k z r ∷ []) ks ls → Steps r done (k ∷ ks) (given k z r ∷ ls)
+        → RoundTurns r (done ++ given k z r ∷ []) ks ls → RoundTurns r done (k ∷ ks) (given k z r ∷ ls)
     waiting : {done ks ls : List Known} {k : Known} → k .found ≡ none → turn (done ++ k ∷ ks) (k .equate) ≡ value none
-        → Steps r (done ++ pendingEquate (k .equate) ∷ []) ks ls → Steps r done (k ∷ ks) (pendingEquate (k .equate) ∷ ls)
+        → RoundTurns r (done ++ pendingEquate (k .equate) ∷ []) ks ls → RoundTurns r done (k ∷ ks) (pendingEquate (k .equate) ∷ ls)
 
   -- it leaves the same equates, no more pending, and each that was pending evaluated once more
-  pub steps-equates : {r : ℕ} {done ks ls : List Known} → Steps r done ks ls → map (λ k. k .equate) ls ≡ map (λ k. k .equate) ks
+  pub steps-equates : {r : ℕ} {done ks ls : List Known} → RoundTurns r done ks ls → map (λ k. k .equate) ls ≡ map (λ k. k .equate) ks
   steps-equates no-more = refl
   steps-equates (kept {k = k} f e s) = ap (λ es. k .equate ∷ es) (steps-equates s)
   steps-equates (gained {k = k} z e t s) = ap (λ es. k .equate ∷ es) (steps-equates s)
   steps-equates (waiting {k = k} e t s) = ap (λ es. k .equate ∷ es) (steps-equates s)
 
-  pub steps-fewer : {r : ℕ} {done ks ls : List Known} → Steps r done ks ls → pendingCount ls ≤ pendingCount ks
+  pub steps-fewer : {r : ℕ} {done ks ls : List Known} → RoundTurns r done ks ls → pendingCount ls ≤ pendingCount ks
   unfolding pendingCount
   steps-fewer no-more = omega arith
   steps-fewer (kept f e s) = rw e (steps-fewer s)
   steps-fewer (gained z e t s) = rw e (omega (arith, steps-fewer s))
   steps-fewer (waiting e t s) = rw e (omega (arith, steps-fewer s))
 
-  pub steps-spent : {R : ℕ} {done ks ls : List Known} → Steps (suc R) done ks ls → spent (suc R) ls ≡ spent R ks + pendingCount ks
+  pub steps-spent : {R : ℕ} {done ks ls : List Known} → RoundTurns (suc R) done ks ls → spent (suc R) ls ≡ spent R ks + pendingCount ks
   unfolding pendingCount spent
   steps-spent no-more = refl
   steps-spent (kept f e s) = rw e (omega (arith, steps-spent s))
@@ -206,7 +206,7 @@ module _ (turn : List Known → Equate → Evaluated) where
   steps-spent (waiting e t s) = rw e (omega (arith, steps-spent s))
 
   -- one that leaves as many pending found nothing
-  pub steps-still : {R : ℕ} {done ks ls : List Known} → Steps (suc R) done ks ls → pendingCount ls ≡ pendingCount ks → Each (Low R) ks
+  pub steps-still : {R : ℕ} {done ks ls : List Known} → RoundTurns (suc R) done ks ls → pendingCount ls ≡ pendingCount ks → Each (Low R) ks
       → Each (Low R) ls
   unfolding pendingCount
   steps-still no-more q g = tt
@@ -217,7 +217,7 @@ module _ (turn : List Known → Equate → Evaluated) where
   -- ---- what its turns saw
 
   -- what an earlier turn saw is not changed by the round
-  stable : {R : ℕ} {done ks ls : List Known} (q i j : ℕ) → q ≤ R → Steps (suc R) done ks ls → shown q i j ls ≡ shown q i j ks
+  stable : {R : ℕ} {done ks ls : List Known} (q i j : ℕ) → q ≤ R → RoundTurns (suc R) done ks ls → shown q i j ls ≡ shown q i j ks
   unfolding shown
   stable q i j h no-more = refl
   stable q i j h (kept {k = k} f e s) = ap (λ r. shownOne q i j k (k .found) ∷ r) (stable q i (suc j) h s)
@@ -227,7 +227,7 @@ module _ (turn : List Known → Equate → Evaluated) where
   stable q i j h (waiting {k = k} e t s) = ap₂ _∷_ (sym (one-pending q i j k e)) (stable q i (suc j) h s)
 
   -- places from i on are seen as they were before the round
-  to-come : {R : ℕ} {done ks ls : List Known} (i j : ℕ) → i ≤ j → Each (Low R) ks → Steps (suc R) done ks ls → shown (suc R) i j ls ≡ ks
+  to-come : {R : ℕ} {done ks ls : List Known} (i j : ℕ) → i ≤ j → Each (Low R) ks → RoundTurns (suc R) done ks ls → shown (suc R) i j ls ≡ ks
   unfolding shown
   to-come i j h g no-more = refl
   to-come {R} i j h g (kept {k = k} f e s) =
@@ -237,7 +237,7 @@ module _ (turn : List Known → Equate → Evaluated) where
       (to-come i (suc j) (omega arith) (g .1) s)
   to-come i j h g (waiting {k = k} e t s) = ap₂ _∷_ (pending-is k e) (to-come i (suc j) (omega arith) (g .1) s)
 
-  seen-is : {R : ℕ} {done ks ls : List Known} → Each (Low (suc R)) done → Each (Low R) ks → Steps (suc R) done ks ls
+  seen-is : {R : ℕ} {done ks ls : List Known} → Each (Low (suc R)) done → Each (Low R) ks → RoundTurns (suc R) done ks ls
       → done ++ ks ≡ shown (suc R) (length done + 0) 0 (done ++ ls)
   seen-is {R} {done} {ks} {ls} d g s =
       sym (shown-append (suc R) (length done + 0) 0 done ls
@@ -258,7 +258,7 @@ module _ (turn : List Known → Equate → Evaluated) where
     moved done ls l i =
         ap₂ (λ (n : ℕ) (xs : List Known). shown (suc R) n 0 xs) (omega (arith, length-append done (l ∷ []))) (append-assoc done (l ∷ []) ls)
 
-    steps-at : {done ks ls : List Known} {i : ℕ} {l : Known} → Each (Low (suc R)) done → Each (Low R) ks → Steps (suc R) done ks ls → At ls i l
+    steps-at : {done ks ls : List Known} {i : ℕ} {l : Known} → Each (Low (suc R)) done → Each (Low R) ks → RoundTurns (suc R) done ks ls → At ls i l
         → (k : Known) × At ks i k × Turn (suc R) (shown (suc R) (length done + i) 0 (done ++ ls)) k l
     steps-at d g (kept {k = k} f e s) here = (k, here, stays f e refl)
     steps-at d g (gained {k = k} z e t s) here = (k, here, gets z e (rw (← seen-is d g (gained z e t s)) t) refl)
@@ -303,7 +303,7 @@ module _ (turn : List Known → Equate → Evaluated) where
   history-start es i k a = rw (of-each (λ (k : Known). k .found ≡ none) (all-none es) a) (λ q h g. absurd (omega arith))
 
   -- after one round more
-  pub history-next : (R : ℕ) (F F′ : List Known) → History R F → Steps (suc R) [] F F′ → History (suc R) F′
+  pub history-next : (R : ℕ) (F F′ : List Known) → History R F → RoundTurns (suc R) [] F F′ → History (suc R) F′
   history-next R F F′ H s i l a = let r = steps-at R tt (history-low R F H) s a in by (r .0) (r .1) (rw zero-plus at (r .2))
     where
       zero-plus : 0 + i ≡ i

@@ -23,12 +23,10 @@ use Rattle.layout.specs.Terms.{isUsed}
 use Rattle.layout.specs.Chains.{nameOf}
 use Rattle.layout.specs.Demands.{recordedValue, largest, lawfulRound, sumOfRounds}
 use Rattle.layout.specs.code.Fits.{Each}
+use Rattle.layout.specs.code.Names.{knownName}
 use Rattle.layout.proofs.Each.{each-append}
 use Rattle.layout.proofs.RoundHistory.{At, here, there, at-same, Earlier, isEarlier, earlier-true, is-earlier, shownOne, shown, spent}
 use Rattle.layout.proofs.RoundHistory.{ToldFound, History, IsFound}
-
-abbrev pub knownName : Known → List ℕ
-knownName k = nameOf (k .equate)
 
 -- ---- a name's value among equates
 
@@ -179,10 +177,10 @@ module _ (σ : State) where
 
 -- ---- records of found equates
 
-abbrev pub recordOf : Known → Found → EquateAt
-recordOf k f = record { name = k .equate .name; line = k .equate .line; value = f .value; round = f .round }
+abbrev pub equateRecordOf : Known → Found → EquateAt
+equateRecordOf k f = record { name = k .equate .name; line = k .equate .line; value = f .value; round = f .round }
 
-each-found : (P : EquateAt → Type 0) (ks : List Known) → ((j : ℕ) (k : Known) (f : Found) → At ks j k → k .found ≡ some f → P (recordOf k f))
+each-found : (P : EquateAt → Type 0) (ks : List Known) → ((j : ℕ) (k : Known) (f : Found) → At ks j k → k .found ≡ some f → P (equateRecordOf k f))
     → Each P (foundEquates ks)
 unfolding foundEquates
 each-found P [] h = tt

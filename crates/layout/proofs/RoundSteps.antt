@@ -44,36 +44,13 @@ use Rattle.layout.proofs.IndexLaws.{by-equal}
 use Rattle.layout.proofs.TermLaws.{extends-trans}
 use Rattle.layout.proofs.KnownLaws.{known-sized, constant-append, name-start, name-len, line-back, pending-at, found-at}
 use Rattle.layout.proofs.RoundHistory.{pending-all, equates-all}
-use Rattle.layout.proofs.ResolveLaws.{no-address}
+use Rattle.layout.proofs.RoundLaws.{Free}
+use Rattle.layout.proofs.ResolveLaws.{no-label-address, tried}
 use Rattle.layout.proofs.Fields.{ValueFits, turn-fits, signed-back}
 
 -- ---- a turn
 
 module _ (base : ℕ) (σ : State) (ks : List Known) (e : Equate) where
-  -- an equate whose turn comes to no refusal is no label, and no equate of its name is found
-  record Free : Type 0 where
-    no-label : isLabel (e .name .bytes) (σ .labels) ≡ false
-    no-value : isSome (constant ks (e .name .bytes)) ≡ false
-
-  free-turn : (o : Option ℤ) → turn base σ ks e ≡ value o → Free
-  unfolding turn
-  free-turn o q = by (isLabel (e .name .bytes) (σ .labels)) refl (isSome (constant ks (e .name .bytes))) refl q
-    where
-      v : Evaluated
-      v = evaluate (look base σ ks) (pos (addressAt base σ (e .place))) (exprText (e .expr))
-
-      by : (l : Bool) → isLabel (e .name .bytes) (σ .labels) ≡ l → (c : Bool) → isSome (constant ks (e .name .bytes)) ≡ c
-          → _≡_ {A = Evaluated} (elim l [ true ↦ refused 14 | false ↦ elim c [ true ↦ refused 15 | false ↦ v ] ]) (value o) → Free
-      by true l c d q = absurd (never q)
-        where
-          never : _≡_ {A = Evaluated} (refused 14) (value o) → ⊥
-          never q = let z : _≡_ {A = ℕ} 0 1 = cc in omega arith
-      by false l true d q = absurd (never q)
-        where
-          never : _≡_ {A = Evaluated} (refused 15) (value o) → ⊥
-          never q = let z : _≡_ {A = ℕ} 0 1 = cc in omega arith
-      by false l false d q = record { no-label = l; no-value = d }
-
   pub turn-label : isLabel (e .name .bytes) (σ .labels) ≡ true → refused 14 ≡ turn base σ ks e
   unfolding turn
   turn-label l = rw (turn, l) refl
@@ -90,17 +67,13 @@ module _ (base : ℕ) (σ : State) (ks : List Known) (e : Equate) where
 
 -- ---- what an equate that is found changes
 
-no-some : (o : Option ℤ) → isSome o ≡ false → o ≡ none
-no-some none h = refl
-no-some (some z) h = absurd (false≢true (sym h))
-
 constant-of : (k : Known) (rest : List Known) (n : List ℕ) (c : Bool) → same (knownName k) n ≡ c
     → constant (k ∷ rest) n ≡ elim c [ true ↦ orElse (foundValue (k .found)) (constant rest n) | false ↦ constant rest n ]
 unfolding constant
 constant-of k rest n c e = rw (constant, e) refl
 
 module _ (base : ℕ) (σ : State) (done : List Known) (k : Known) (rest : List Known) (f : Found) (pending : k .found ≡ none)
-    (free : Free base σ (done ++ k ∷ rest) (k .equate)) where
+    (free : Free σ (done ++ k ∷ rest) (k .equate)) where
   abbrev now : Known
   now = record { equate = k .equate; found = some f }
 
@@ -109,7 +82,7 @@ module _ (base : ℕ) (σ : State) (done : List Known) (k : Known) (rest : List 
   was-none n e =
       let q = same-equal (knownName k) n e in
       subst (λ (m : List ℕ). look base σ (done ++ k ∷ rest) m ≡ none) q
-      (ap₂ (λ (a : Option ℤ) (b : Option ℕ). orElse a (asNumber b)) (no-some (constant (done ++ k ∷ rest) (knownName k)) (free .no-value)) (no-address base σ (σ .labels) (knownName k) (free .no-label)))
+      (ap₂ (λ (a : Option ℤ) (b : Option ℕ). orElse a (asNumber b)) (free .fresh) (no-label-address base σ (σ .labels) (knownName k) (free .noLabel)))
 
   -- another name's value is the same
   is-same : (n : List ℕ) → same (knownName k) n ≡ false → constant (done ++ now ∷ rest) n ≡ constant (done ++ k ∷ rest) n
@@ -274,7 +247,7 @@ pub record Frame : Type 0 where
   pub places : ℕ
 
 -- within a round: the equates ks, of which `done` have had their turn
-pub record Walk (f : Frame) (round before : ℕ) (ks done todo : List Known) (e w : List ℕ) (evaluations pending : ℕ) : Type 0 where
+pub record RoundWalk (f : Frame) (round before : ℕ) (ks done todo : List Known) (e w : List ℕ) (evaluations pending : ℕ) : Type 0 where
   pub split : ks ≡ done ++ todo
   pub table : EquateTable (f .text) e (f .index) (f .count) ks
   pub equates : map (λ k. k .equate) ks ≡ f .state .rest .equates
@@ -298,7 +271,7 @@ pub record Walking (f : Frame) (round before : ℕ) (e w : List ℕ) (evaluation
   pub done : List Known
   pub todo : List Known
   pub place : k ≡ length done
-  pub walk : Walk f round before all done todo e w evaluations pending
+  pub walk : RoundWalk f round before all done todo e w evaluations pending
 
 -- before a round, the first or another: so many are finished
 pub record Rounding (f : Frame) (e w : List ℕ) (evaluations pending round : ℕ) : Type 0 where
@@ -317,18 +290,18 @@ pub record Rounding (f : Frame) (e w : List ℕ) (evaluations pending round : �
   pub waited : (round ≡ 0 → ⊥) → (i : ℕ) → i < f .count → Waited (f .base) (f .state) known w i
 
 module _ (f : Frame) (round before : ℕ) (ks done : List Known) (k : Known) (rest : List Known) (e w : List ℕ) (evaluations pending : ℕ)
-    (m : Walk f round before ks done (k ∷ rest) e w evaluations pending) where
+    (m : RoundWalk f round before ks done (k ∷ rest) e w evaluations pending) where
   more-size : length (done ++ k ∷ []) ≡ suc (length done)
   more-size = length-append done (k ∷ []) ∙ add-one (length done)
 
   size : length ks ≡ length done + suc (length rest)
   size = ap length (m .split) ∙ length-append done (k ∷ rest)
 
-  pub here-at : knownAt ks (length done) ≡ k
-  here-at = ap (λ (l : List Known). knownAt l (length done)) (m .split) ∙ at-seam done k rest
+  known-here : knownAt ks (length done) ≡ k
+  known-here = ap (λ (l : List Known). knownAt l (length done)) (m .split) ∙ at-seam done k rest
 
   -- it is found already: it has no turn
-  pub walk-kept : (g : Found) → k .found ≡ some g → Walk f round before ks (done ++ k ∷ []) rest e w evaluations pending
+  pub walk-kept : (g : Found) → k .found ≡ some g → RoundWalk f round before ks (done ++ k ∷ []) rest e w evaluations pending
   walk-kept g q = record {
     split = m .split ∙ sym (seam done k rest);
     table = m .table;
@@ -345,7 +318,7 @@ module _ (f : Frame) (round before : ℕ) (ks done : List Known) (k : Known) (re
     room = m .room;
     roomy = m .roomy;
     waited = λ i h. by-equal i (length done)
-        (λ z p. absurd (none-some (sym p ∙ ap (λ (j : ℕ). knownAt ks j .found) z ∙ ap (λ (l : Known). l .found) here-at ∙ q)))
+        (λ z p. absurd (none-some (sym p ∙ ap (λ (j : ℕ). knownAt ks j .found) z ∙ ap (λ (l : Known). l .found) known-here ∙ q)))
         (λ n. m .waited i (omega (arith, more-size, h, n)));
     later = m .later;
   }
@@ -357,7 +330,7 @@ module _ (f : Frame) (round before : ℕ) (ks done : List Known) (k : Known) (re
     -- it waits
     pub walk-waits : value none ≡ turn (f .base) (f .state) ks (k .equate) → (s : Partial) → in64 (s .sum) ≡ true
         → Blocked (record { base = f .base; state = f .state; known = ks }) (k .equate) s → (w′ : List ℕ) → w′ ≡ putPartial w (length done) s
-        → Walk f round before ks (done ++ k ∷ []) rest e w′ (suc evaluations) pending
+        → RoundWalk f round before ks (done ++ k ∷ []) rest e w′ (suc evaluations) pending
     walk-waits q s small b w′ u = record {
       split = m .split ∙ sym (seam done k rest);
       table = m .table;
@@ -385,7 +358,7 @@ module _ (f : Frame) (round before : ℕ) (ks done : List Known) (k : Known) (re
             subst (λ (a : Partial). Blocked (record { base = f .base; state = f .state; known = ks }) (knownAt ks i .equate) a)
             (sym (ap (λ (l : List ℕ). partialAt l i) u ∙ ap (λ (j : ℕ). partialAt (putPartial w (length done) s) j) z ∙ partial-same w (length done) s within small))
             (subst (λ (l : Known). Blocked (record { base = f .base; state = f .state; known = ks }) (l .equate) s)
-            (sym (ap (knownAt ks) z ∙ here-at)) b)
+            (sym (ap (knownAt ks) z ∙ known-here)) b)
 
         other-waits : (i : ℕ) → (i ≡ length done → ⊥) → Waited (f .base) (f .state) ks w i → Waited (f .base) (f .state) ks w′ i
         other-waits i n b none-yet =
@@ -414,7 +387,7 @@ module _ (f : Frame) (round before : ℕ) (ks done : List Known) (k : Known) (re
       extends =
           subst (λ (l : List Known). Extends (look (f .base) (f .state) l) (look (f .base) (f .state) then)) (sym (m .split))
           (found-extends (f .base) (f .state) done k rest (record { value = z; round = round }) p
-          (free-turn (f .base) (f .state) (done ++ k ∷ rest) (k .equate) (some z) (turn-here _ q)))
+          (tried (f .base) (f .state) (done ++ k ∷ rest) (k .equate) (some z) (turn-here _ q) .free))
 
       pub fewer : pending ≡ suc (pendingCount then)
       unfolding pendingCount
@@ -423,7 +396,7 @@ module _ (f : Frame) (round before : ℕ) (ks done : List Known) (k : Known) (re
           ∙ omega (arith, pending-append done (found ∷ rest))
 
       pub walk-found : (e′ : List ℕ) → length e′ ≡ length e → e′ ≡ put (length done * equateSize) (fieldBytes (knownFields found)) e
-          → (pending′ : ℕ) → suc pending′ ≡ pending → Walk f round before then (done ++ found ∷ []) rest e′ w (suc evaluations) pending′
+          → (pending′ : ℕ) → suc pending′ ≡ pending → RoundWalk f round before then (done ++ found ∷ []) rest e′ w (suc evaluations) pending′
       walk-found e′ l u pending′ less = record {
         split = sym (seam done found rest);
         table = table-found (f .text) e e′ (f .index) (f .count) done k rest (record { value = z; round = round }) (rw (m .split) at (m .table))
@@ -469,13 +442,13 @@ pub record Here (f : Frame) (round before : ℕ) (e w : List ℕ) (evaluations p
   pub place : k ≡ length done
   pub is : knownAt all k ≡ one
   pub within : k < length all
-  pub walk : Walk f round before all done (one ∷ rest) e w evaluations pending
+  pub walk : RoundWalk f round before all done (one ∷ rest) e w evaluations pending
 
 pub walk-here : (f : Frame) (round before : ℕ) (e w : List ℕ) (evaluations pending k : ℕ) → Walking f round before e w evaluations pending k
     → k < f .count → Here f round before e w evaluations pending k
 walk-here f round before e w evaluations pending k m h = by (m .todo) (m .walk)
   where
-    by : (todo : List Known) → Walk f round before (m .all) (m .done) todo e w evaluations pending → Here f round before e w evaluations pending k
+    by : (todo : List Known) → RoundWalk f round before (m .all) (m .done) todo e w evaluations pending → Here f round before e w evaluations pending k
     by [] v = absurd (omega (arith, v .table .rows .counted, ap length (v .split), length-append (m .done) [], m .place, h))
     by (x ∷ rest) v =
         record {
@@ -484,7 +457,7 @@ walk-here f round before e w evaluations pending k m h = by (m .todo) (m .walk)
           one = x;
           rest = rest;
           place = m .place;
-          is = ap (knownAt (m .all)) (m .place) ∙ here-at f round before (m .all) (m .done) x rest e w evaluations pending v;
+          is = ap (knownAt (m .all)) (m .place) ∙ known-here f round before (m .all) (m .done) x rest e w evaluations pending v;
           within = omega (arith, v .table .rows .counted, h);
           walk = v;
         }
@@ -512,7 +485,7 @@ module _ (f : Frame) (round before : ℕ) (e w : List ℕ) (evaluations pending 
         done = m .done ++ m .one ∷ [];
         todo = m .rest;
         place = more (m .one);
-        walk = subst (λ (n : ℕ). Walk f round before (m .all) (m .done ++ m .one ∷ []) (m .rest) e w′ n pending) (sym (add-one evaluations))
+        walk = subst (λ (n : ℕ). RoundWalk f round before (m .all) (m .done ++ m .one ∷ []) (m .rest) e w′ n pending) (sym (add-one evaluations))
             (walk-waits f round before (m .all) (m .done) (m .one) (m .rest) e w evaluations pending (m .walk) p q s small b w′ (u ∙ ap (λ (j : ℕ). putPartial w j s) (m .place)));
       }
 
@@ -541,7 +514,7 @@ module _ (f : Frame) (round before : ℕ) (e w : List ℕ) (evaluations pending 
         done = m .done ++ found ∷ [];
         todo = m .rest;
         place = more found;
-        walk = subst (λ (n : ℕ). Walk f round before (m .done ++ found ∷ m .rest) (m .done ++ found ∷ []) (m .rest) e′ w n pending′) (sym (add-one evaluations))
+        walk = subst (λ (n : ℕ). RoundWalk f round before (m .done ++ found ∷ m .rest) (m .done ++ found ∷ []) (m .rest) e′ w n pending′) (sym (add-one evaluations))
             (walk-found f round before (m .all) (m .done) (m .one) (m .rest) e w evaluations pending (m .walk) p z q small fits e′ l
             (u ∙ ap (λ (j : ℕ). put (j * equateSize) (fieldBytes (knownFields found)) e) (m .place)) pending′ less);
       }
@@ -573,7 +546,7 @@ module _ (f : Frame) (e w : List ℕ) (evaluations pending round : ℕ) (m : Rou
       record { all = m .known; done = []; todo = m .known; place = refl; walk = by (m .fuel) (m .enough) (m .goes) }
     where
       by : (fuel : ℕ) → pending < fuel → rounds (f .base) (f .state) fuel (suc round) (m .known) evaluations ≡ resolve (f .base) (f .state) (f .state .rest .equates)
-          → Walk f (round + 1) pending (m .known) [] (m .known) e w evaluations pending
+          → RoundWalk f (round + 1) pending (m .known) [] (m .known) e w evaluations pending
       by zero more g = absurd (omega arith)
       by (suc fuel) more g =
           record {

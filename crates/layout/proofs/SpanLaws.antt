@@ -12,7 +12,7 @@ use lib.ListN.{length, take, drop, getD, drop-of-length-le, length-take, length-
 use lib.Seq.{drop-cons, drop-drop, take-take, take-length, length-take-le}
 use Rattle.numbers.specs.declared.text.Span.{Span}
 use Rattle.numbers.specs.Text.{leadingSpaces, trimmed, indexOf, uncommented}
-use Rattle.numbers.specs.code.Spans.{trimSpan, spanned, statementSpan, strLitOf}
+use Rattle.numbers.specs.code.Spans.{trimSpan, spanned, strLitOf}
 use Rattle.numbers.proofs.Trims.{tail, span-front, span-later, trim-span-text, trim-span-within, statement-text, statement-within}
 use Rattle.numbers.proofs.Quoted.{str-lit-within, string-some}
 use Rattle.numbers.specs.Literals.{stringOf}
@@ -138,7 +138,7 @@ trim-from-back t q n h = rw (from-back t q n h) at (trim-back t (spanOf (fromByt
 
 -- the statement of the line from one place to another
 pub statement-back : (t : List ℕ) (at end : ℕ) → spanned t (spanOf (statementOf (lineAt t at end))) ≡ statementOf (lineAt t at end) .bytes
-unfolding statementSpan trimSpan spanned
+unfolding trimSpan spanned
 statement-back t at end =
     let s = take (end - at) (drop at t) in
     let u = uncommented s in

@@ -29,7 +29,7 @@ use Rattle.layout.specs.Pieces.{Piece, piece}
 use Rattle.layout.specs.Statements.{OwnStatement, item, stores, reserves, reservesBss, Statement, nothing, enters, equate, own, Line, lineOf}
 use Rattle.layout.specs.State.{Items, Stored, Own, Rest, State, offsetIn, here}
 use Rattle.layout.specs.Stage.{labelStep, addEquate, dataLine, bssLine, withItems, withStored, withBss, withRest}
-use Rattle.layout.specs.Stage.{ownLine, says, stepParsed, stepLine}
+use Rattle.layout.specs.Stage.{ownLine, statementStep, stepParsed, stepLine}
 use Rattle.layout.specs.code.Steps.{Agrees, Steps}
 use Rattle.layout.specs.code.Places.{PlaceFits, sectionLimit}
 use Rattle.layout.specs.code.Spans.{spanOf, pieceAt, lineAt, ownCode, ownAt, statementCode, statementAt, equateAt, labelPartOf, labelPartAt, lineCode}
@@ -58,14 +58,14 @@ module _ {t : List ℕ} {k : Room} {c : OwnCounters} {b : OwnStore} {σ : Own} (
       offset : offsetOf (c .section) c ≡ offsetIn (σ .section) σ
       offset = ap (λ (x : Section). offsetOf x c) (s .section) ∙ by (σ .section)
 
-  pub words-few : c .items .words ≤ wordLimit
-  words-few = omega (arith, s .items .words, s .items .fits .room, s .items .word-limit)
+  pub words-within : c .items .words ≤ wordLimit
+  words-within = omega (arith, s .items .words, s .items .fits .room, s .items .word-limit)
 
   pub place-fits : PlaceFits (placeOf c)
   place-fits = by (c .section)
     where
       by : (x : Section) → offsetOf x c ≤ sectionLimit x
-      by section.Text = omega (arith, words-few)
+      by section.Text = omega (arith, words-within)
       by section.Data = omega (arith, s .stored .counted, s .stored .fits .room, s .stored .limit)
       by section.Bss = s .bss-limit
 
@@ -128,8 +128,8 @@ source-line t k line (Reserves x) q σ = refl
 -- ---- what a statement does
 
 module _ (t : List ℕ) (k : Room) (c : RestCounters) (line : ℕ) where
-  pub enters-goes : (x : Section) (b : RestStore) → Steps (RestStand t k) c b (value (record { equates = c .equates; own = enteredOwn x (c .own) })) b (says k line (enters x))
-  unfolding says
+  pub enters-goes : (x : Section) (b : RestStore) → Steps (RestStand t k) c b (value (record { equates = c .equates; own = enteredOwn x (c .own) })) b (statementStep k line (enters x))
+  unfolding statementStep
   enters-goes x b σ s =
       record {
         equates = s .equates;
@@ -148,26 +148,26 @@ module _ (t : List ℕ) (k : Room) (c : RestCounters) (line : ℕ) where
         (h (σ .equates) (s .equates))
 
     pub equate-go : (n : ℕ) → r ≡ value n
-        → Steps (RestStand t k) c (record { equates = e; own = o }) (value (record { equates = n; own = c .own })) (record { equates = e′; own = o }) (says k line said)
-    unfolding says
+        → Steps (RestStand t k) c (record { equates = e; own = o }) (value (record { equates = n; own = c .own })) (record { equates = e′; own = o }) (statementStep k line said)
+    unfolding statementStep
     equate-go n q σ s = lift-go _ _ r _ _ n _ q (added σ s) (λ es p. record { equates = p; own = s .own })
 
     pub equate-stopped : (n : ℕ) → r ≡ refused n
-        → Steps (RestStand t k) c (record { equates = e; own = o }) (refused n) (record { equates = e′; own = o }) (says k line said)
-    unfolding says
+        → Steps (RestStand t k) c (record { equates = e; own = o }) (refused n) (record { equates = e′; own = o }) (statementStep k line said)
+    unfolding statementStep
     equate-stopped n q σ s = lift-stop _ (λ y. RestStand t k y (record { equates = e′; own = o })) r _ _ n q (added σ s)
 
   module _ (e : EquateStore) (o o′ : OwnStore) (x : OwnStatement) (r : Result ℕ OwnCounters)
       (h : Steps (OwnStand t k) (c .own) o r o′ (ownLine k line x)) where
     pub own-go : (y : OwnCounters) → r ≡ value y
         → Steps (RestStand t k) c (record { equates = e; own = o }) (value (record { equates = c .equates; own = y })) (record { equates = e; own = o′ })
-        (says k line (own x))
-    unfolding says
+        (statementStep k line (own x))
+    unfolding statementStep
     own-go y q σ s = lift-go _ _ r (ownLine k line x (σ .own)) _ y _ q (h (σ .own) (s .own)) (λ ω p. record { equates = s .equates; own = p })
 
     pub own-stopped : (n : ℕ) → r ≡ refused n
-        → Steps (RestStand t k) c (record { equates = e; own = o }) (refused n) (record { equates = e; own = o′ }) (says k line (own x))
-    unfolding says
+        → Steps (RestStand t k) c (record { equates = e; own = o }) (refused n) (record { equates = e; own = o′ }) (statementStep k line (own x))
+    unfolding statementStep
     own-stopped n q σ s =
         lift-stop _ (λ y. RestStand t k y (record { equates = e; own = o′ })) r (ownLine k line x (σ .own)) _ n q (h (σ .own) (s .own))
 
@@ -246,7 +246,7 @@ module _ (t : List ℕ) (k : Room) (c : Counters) (b b′ : Store) (line at end 
   parts = lineOf (c .rest .own .section) (lineAt t at end)
 
   abbrev told : Rest → Result ℕ Rest
-  told σ = andThen (parts .says) (λ s. says k line s σ)
+  told σ = andThen (parts .says) (λ s. statementStep k line s σ)
 
   stepped : (σ : State) → Stands t k c b σ → stepLine k line (lineAt t at end) σ
       ≡ andThen (labelStep k (here (σ .rest .own)) line (parts .label) (σ .labels)) (λ ls. mapped (withRest ls) (told (σ .rest)))
@@ -265,10 +265,10 @@ module _ (t : List ℕ) (k : Room) (c : Counters) (b b′ : Store) (line at end 
       (then-stop (λ n. LabelsStand t k n (b′ .labels)) (λ d. Stands t k d b′) r (labelStep k (here (σ .rest .own)) line (parts .label) (σ .labels)) _ n e (labelled σ s))
 
   module _ (n : ℕ) (e : r ≡ value n) (q : Result ℕ RestCounters)
-      (rest : Steps (RestStand t k) (c .rest) (b .rest) q (b′ .rest) (λ σ. andThen (statementAt t (l .says)) (λ s. says k line s σ))) where
+      (rest : Steps (RestStand t k) (c .rest) (b .rest) q (b′ .rest) (λ σ. andThen (statementAt t (l .says)) (λ s. statementStep k line s σ))) where
     rested : (σ : State) → Stands t k c b σ → Agrees (λ d. RestStand t k d (b′ .rest)) q (told (σ .rest))
     rested σ s =
-        subst (λ (x : Result ℕ Statement). Agrees (λ d. RestStand t k d (b′ .rest)) q (andThen x (λ y. says k line y (σ .rest)))) (line-says t at end h g _ l is)
+        subst (λ (x : Result ℕ Statement). Agrees (λ d. RestStand t k d (b′ .rest)) q (andThen x (λ y. statementStep k line y (σ .rest)))) (line-says t at end h g _ l is)
         (rest (σ .rest) (s .rest))
 
     pub rest-stopped : (m : ℕ) → q ≡ refused m → Steps (Stands t k) c b (refused m) b′ (stepLine k line (lineAt t at end))

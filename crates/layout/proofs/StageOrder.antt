@@ -1,10 +1,11 @@
--- What the line stage leaves besides what Kept.antt says: labels of different names, label words side by side, equates at rising lines;
--- and no refusal of it is 0 or 17.
-use Prim.Native.Nat.{ℕ, suc, _+_, _≤_}
+-- What the line stage leaves besides what Kept.antt says: labels of different names, label words side by side, equates at rising lines, every
+-- recorded line a line of the text; and which numbers it can refuse by, at a line of the text.
+use Prim.Native.Nat.{ℕ, suc, _+_, _≤_, _<_}
 use mathlib.Core.Path.{_≡_, refl, sym, _∙_, ap}
 use mathlib.Core.List.{List, [], _∷_, _++_, map}
-use mathlib.Core.Bool.{Bool, true, false, not, _||_, _&&_, true≢false}
+use mathlib.Core.Bool.{Bool, true, false, _||_, true≢false}
 use mathlib.Core.Option.{Option, none, some}
+use native.Mathlib.Nat.{zero-add}
 use native.Mathlib.Omega.{arith}
 use lib.Dec.{ltb, leb, eqb}
 use lib.IntN.{ℤ, pos, negsuc}
@@ -31,7 +32,7 @@ use Rattle.layout.specs.declared.directives.Directive.{Directive}
 use Rattle.layout.specs.declared.directives.Directive.the-variants as directive
 use Rattle.layout.specs.declared.directives.Reservation.{Reservation}
 use Rattle.layout.specs.Bytes.{isOneOf}
-use Rattle.layout.specs.Refusals.{Refusal, atLine}
+use Rattle.layout.specs.Refusals.{Refusal, atLine, isIn, lineNumbers}
 use Rattle.layout.specs.Limits.{bssLimit, labelWordLimit}
 use Rattle.layout.specs.Pieces.{Piece, trimPiece, holds, isEmpty, statementOf, lines, linePieces}
 use Rattle.layout.specs.Directives.{Row, directives, rowIn, placeAfter, reservation, Write, bytes, gap, addressOf, isLabelName, rangeAt}
@@ -41,33 +42,28 @@ use Rattle.layout.specs.Statements.{Statement, nothing, enters, equate, 
 use Rattle.layout.specs.Statements.{sectionLine, symbolAfter, equateOf, equOf, isAssignment, otherIn, assignmentOf}
 use Rattle.layout.specs.Statements.{directiveIn, onRow, unlabelledOf, Line, labelled, parsed, lineOf}
 use Rattle.layout.specs.Pseudos.{Item, ordinary, pseudo, other, itemOf, reservedWords}
-use Rattle.layout.specs.State.{Label, Equate, LabelWord, Items, Stored, Own, Rest, State, start, here}
+use Rattle.layout.specs.State.{Label, Equate, ItemLine, LabelWord, Items, Stored, Own, Rest, State, start, here}
 use Rattle.layout.specs.Stage.{isLabel, recorded, addLabel, labelStep, addEquate, addItem, textLine, writeSize, writeBytes, growData}
 use Rattle.layout.specs.Stage.{addLabelWord, dataWrite, dataLine, growBss, bssLine, withItems, withStored, withBss, withEquates, withOwn}
-use Rattle.layout.specs.Stage.{withRest, ownLine, says, stepParsed, stepLine, lineStage}
+use Rattle.layout.specs.Stage.{withRest, ownLine, statementStep, stepParsed, stepLine, lineStage}
 use Rattle.layout.specs.code.Fits.{Each}
-use Rattle.layout.proofs.Each.{cond-has}
+use Rattle.layout.proofs.Each.{each-append, each-weaker, cond-has}
 use Rattle.layout.proofs.Gives.{Comes, and-then-comes, mapped-comes}
-use Rattle.layout.proofs.Kept.{Grown, grow-data-fits}
+use Rattle.layout.proofs.RefusalLaws.{Said, at-line-said}
+use Rattle.layout.proofs.Kept.{Grown, grow-data-fits, pieces-length}
 
 -- ---- numbers of refusals
 
--- not 0, which says accepted, and not 17, which the rounds alone say
-abbrev pub isEarly : ℕ → Bool
-isEarly n = ltb 0 n && not (eqb n 17)
-
-abbrev pub Early : ℕ → Type 0
-Early n = isEarly n ≡ true
-
-abbrev pub EarlyAt : Refusal → Type 0
-EarlyAt r = Early (r .number)
+-- one that the lines can say
+abbrev OfLines : ℕ → Type 0
+OfLines n = isIn lineNumbers n ≡ true
 
 -- P of the value, and a refusal of such a number
-abbrev pub ComesEarly : {A : Type 0} → (A → Type 0) → Result ℕ A → Type 0
-ComesEarly P x = Comes P Early x
+abbrev ComesSaid : {A : Type 0} → (A → Type 0) → Result ℕ A → Type 0
+ComesSaid P x = Comes P OfLines x
 
 abbrev Sound : {A : Type 0} → Result ℕ A → Type 0
-Sound x = ComesEarly (λ _. Unit) x
+Sound x = ComesSaid (λ _. Unit) x
 
 test-has : {A : Type 0} (P : A → Type 0) (c : Bool) (x y : A) → P x → P y → P (elim c [ true ↦ x | false ↦ y ])
 test-has P true x y g h = g
@@ -207,12 +203,12 @@ recorded-apart x (l ∷ ls) g = by (same (l .name .bytes) (x .name .bytes)) refl
     by true e h = (ap (λ (n : List ℕ). isLabel n ls) (sym (same-equal (l .name .bytes) (x .name .bytes) e)) ∙ g .0, g .1)
     by false e h = (not-recorded (l .name .bytes) x ls (g .0) (same-swap (l .name .bytes) (x .name .bytes) e), h)
 
-label-apart : (k : Room) (place : Place) (line : ℕ) (o : Option Piece) (ls : List Label) → Apart ls → ComesEarly Apart (labelStep k place line o ls)
+label-apart : (k : Room) (place : Place) (line : ℕ) (o : Option Piece) (ls : List Label) → Apart ls → ComesSaid Apart (labelStep k place line o ls)
 unfolding labelStep addLabel
 label-apart k place line none ls g = g
 label-apart k place line (some name) ls g =
     let x : Label = record { name = name; place = place; line = line } in
-    test-has (ComesEarly Apart) (isLabel (name .bytes) ls || ltb (length ls) (k .labels)) (value (recorded x ls)) (refused 45)
+    test-has (ComesSaid Apart) (isLabel (name .bytes) ls || ltb (length ls) (k .labels)) (value (recorded x ls)) (refused 45)
     (recorded-apart x ls g) refl
 
 -- ---- label words
@@ -230,89 +226,101 @@ spread-last : (n : ℕ) (ws : List LabelWord) (w : LabelWord) (p : ℕ) → Spre
 spread-last n [] w p g h = (g, h)
 spread-last n (x ∷ ws) w p g h = (g .0, spread-last (x .at + 4) ws w p (g .1) h)
 
-abbrev pub StoredSpread : Stored → Type 0
-StoredSpread σ = Spread 0 (σ .labelWords) (length (σ .bytes))
+-- the lines that are recorded are among the first m
+abbrev pub LabelWordBelow : ℕ → LabelWord → Type 0
+LabelWordBelow m w = w .line < m
 
-add-word-spread : (line p m : ℕ) (w : Write) (ws : List LabelWord) → p + writeSize p w ≤ m → Spread 0 ws p
-    → ComesEarly (λ us. Spread 0 us m) (addLabelWord line p w ws)
-unfolding addLabelWord
-add-word-spread line p m (bytes bs) ws h g = spread-more 0 ws p m (omega arith) g
-add-word-spread line p m (gap r) ws h g = spread-more 0 ws p m (omega arith) g
-add-word-spread line p m (addressOf name) ws h g =
-    let x : LabelWord = record { at = p; name = name; line = line } in
-    test-has (ComesEarly (λ us. Spread 0 us m)) (ltb (length ws) labelWordLimit) (value (ws ++ x ∷ [])) (refused 47) (spread-last 0 ws x m g h) refl
+abbrev pub ItemBelow : ℕ → ItemLine → Type 0
+ItemBelow m x = x .line < m
+
+abbrev WordsLaid : ℕ → ℕ → List LabelWord → Type 0
+WordsLaid m n ws = Spread 0 ws n × Each (LabelWordBelow m) ws
+
+abbrev StoredLaid : ℕ → Stored → Type 0
+StoredLaid m σ = WordsLaid m (length (σ .bytes)) (σ .labelWords)
 
 -- the data grow by what is written, or 42
-grows : (k : Room) (w : Write) (bs : List ℕ) → ComesEarly (Grown k w bs) (growData k w bs)
+grows : (k : Room) (w : Write) (bs : List ℕ) → ComesSaid (Grown k w bs) (growData k w bs)
 unfolding growData
 grows k w bs = by (growData k w bs) (grow-data-fits k w bs) sound
   where
     sound : Sound (growData k w bs)
     sound = test-has Sound (leb (length bs + writeSize (length bs) w) (k .bytes)) (value (bs ++ writeBytes (length bs) w)) (refused 42) tt refl
 
-    by : (x : Result ℕ (List ℕ)) → Comes (Grown k w bs) (λ _. Unit) x → Sound x → ComesEarly (Grown k w bs) x
+    by : (x : Result ℕ (List ℕ)) → Comes (Grown k w bs) (λ _. Unit) x → Sound x → ComesSaid (Grown k w bs) x
     by (value a) g s = g
     by (refused n) g s = s
 
-module _ (k : Room) (line : ℕ) where
-  write-spread : (w : Write) (σ : Stored) → StoredSpread σ → ComesEarly StoredSpread (dataWrite k line w σ)
+bss-sound : (r : Result ℕ Reservation) (p : ℕ) → Sound r → Sound (bssLine r p)
+unfolding bssLine growBss
+bss-sound (value x) p s = test-has Sound (leb (placeAfter p x) bssLimit) _ _ tt refl
+bss-sound (refused n) p s = s
+
+gap-sound : (r : Result ℕ Reservation) → Sound r → Sound (mapped gap r)
+gap-sound (value x) s = tt
+gap-sound (refused n) s = s
+
+-- at one of the first m lines
+module _ (k : Room) (line m : ℕ) (below : line < m) where
+  add-word-laid : (p n : ℕ) (w : Write) (ws : List LabelWord) → p + writeSize p w ≤ n → WordsLaid m p ws
+      → ComesSaid (WordsLaid m n) (addLabelWord line p w ws)
+  unfolding addLabelWord
+  add-word-laid p n (bytes bs) ws h g = (spread-more 0 ws p n (omega arith) (g .0), g .1)
+  add-word-laid p n (gap r) ws h g = (spread-more 0 ws p n (omega arith) (g .0), g .1)
+  add-word-laid p n (addressOf name) ws h g =
+      let x : LabelWord = record { at = p; name = name; line = line } in
+      test-has (ComesSaid (WordsLaid m n)) (ltb (length ws) labelWordLimit) (value (ws ++ x ∷ [])) (refused 47)
+      (spread-last 0 ws x n (g .0) h, each-append (LabelWordBelow m) ws (x ∷ []) (g .1) (below, tt)) refl
+
+  write-laid : (w : Write) (σ : Stored) → StoredLaid m σ → ComesSaid (StoredLaid m) (dataWrite k line w σ)
   unfolding dataWrite
-  write-spread w σ g =
+  write-laid w σ g =
       let p : ℕ = length (σ .bytes) in
-      and-then-comes (Grown k w (σ .bytes)) StoredSpread Early (growData k w (σ .bytes)) _ (grows k w (σ .bytes)) (λ bs h.
-      mapped-comes (λ us. Spread 0 us (length bs)) StoredSpread Early _ (addLabelWord line p w (σ .labelWords)) (λ us i. i)
-      (add-word-spread line p (length bs) w (σ .labelWords) (omega (arith, h .0)) g))
+      and-then-comes (Grown k w (σ .bytes)) (StoredLaid m) OfLines (growData k w (σ .bytes)) _ (grows k w (σ .bytes)) (λ bs h.
+      mapped-comes (WordsLaid m (length bs)) (StoredLaid m) OfLines _ (addLabelWord line p w (σ .labelWords)) (λ us i. i)
+      (add-word-laid p (length bs) w (σ .labelWords) (omega (arith, h .0)) g))
 
-  line-spread : (rs : List (Result ℕ Write)) (σ : Stored) → Each Sound rs → StoredSpread σ → ComesEarly StoredSpread (dataLine k line rs σ)
+  data-laid : (rs : List (Result ℕ Write)) (σ : Stored) → Each Sound rs → StoredLaid m σ → ComesSaid (StoredLaid m) (dataLine k line rs σ)
   unfolding dataLine
-  line-spread [] σ s g = g
-  line-spread (value w ∷ rs) σ s g =
-      and-then-comes StoredSpread StoredSpread Early (dataWrite k line w σ) (dataLine k line rs) (write-spread w σ g) (λ τ. line-spread rs τ (s .1))
-  line-spread (refused n ∷ rs) σ s g = s .0
+  data-laid [] σ s g = g
+  data-laid (value w ∷ rs) σ s g =
+      and-then-comes (StoredLaid m) (StoredLaid m) OfLines (dataWrite k line w σ) (dataLine k line rs) (write-laid w σ g) (λ τ. data-laid rs τ (s .1))
+  data-laid (refused n ∷ rs) σ s g = s .0
 
-  -- ---- items and bss, which keep the rest
+  abbrev ItemsLaid : Items → Type 0
+  ItemsLaid σ = Each (ItemBelow m) (σ .list)
 
-  item-sound : (o : Option Pseudo) (p : Piece) (σ : Items) → Sound (addItem k line o p σ)
+  item-laid : (o : Option Pseudo) (p : Piece) (σ : Items) → ItemsLaid σ → ComesSaid ItemsLaid (addItem k line o p σ)
   unfolding addItem
-  item-sound o p σ =
-      test-has Sound (ltb (length (σ .list)) (k .items)) _ _
-      (test-has Sound (leb (σ .words + reservedWords o (p .bytes)) (k .words)) _ _ tt refl) refl
+  item-laid o p σ g =
+      test-has (ComesSaid ItemsLaid) (ltb (length (σ .list)) (k .items)) _ _
+      (test-has (ComesSaid ItemsLaid) (leb (σ .words + reservedWords o (p .bytes)) (k .words)) _ _
+      (each-append (ItemBelow m) (σ .list) _ g (below, tt)) refl) refl
 
-  text-sound : (p : Piece) (i : Item) (σ : Items) → Sound (textLine k line p i σ)
+  text-laid : (p : Piece) (i : Item) (σ : Items) → ItemsLaid σ → ComesSaid ItemsLaid (textLine k line p i σ)
   unfolding textLine
-  text-sound p other σ = refl
-  text-sound p ordinary σ = item-sound none p σ
-  text-sound p (pseudo q) σ = item-sound (some q) p σ
+  text-laid p other σ g = refl
+  text-laid p ordinary σ g = item-laid none p σ g
+  text-laid p (pseudo q) σ g = item-laid (some q) p σ g
 
-  bss-sound : (r : Result ℕ Reservation) (p : ℕ) → Sound r → Sound (bssLine r p)
-  unfolding bssLine growBss
-  bss-sound (value x) p s = test-has Sound (leb (placeAfter p x) bssLimit) _ _ tt refl
-  bss-sound (refused n) p s = s
+  abbrev OwnLaid : Own → Type 0
+  OwnLaid σ = StoredLaid m (σ .stored) × ItemsLaid (σ .items)
 
-  gap-sound : (r : Result ℕ Reservation) → Sound r → Sound (mapped gap r)
-  gap-sound (value x) s = tt
-  gap-sound (refused n) s = s
-
-  -- ---- a line
-
-  abbrev OwnSpread : Own → Type 0
-  OwnSpread σ = StoredSpread (σ .stored)
-
-  own-spread : (s : OwnStatement) (σ : Own) → OwnSpread σ → ComesEarly OwnSpread (ownLine k line s σ)
+  own-laid : (s : OwnStatement) (σ : Own) → OwnLaid σ → ComesSaid OwnLaid (ownLine k line s σ)
   unfolding ownLine
-  own-spread (item p) σ g =
-      mapped-comes (λ _. Unit) OwnSpread Early (withItems σ) (textLine k line p (itemOf (p .bytes)) (σ .items)) (λ x u. g)
-      (text-sound p (itemOf (p .bytes)) (σ .items))
-  own-spread (stores x p) σ g =
-      mapped-comes StoredSpread OwnSpread Early (withStored σ) (dataLine k line (storeWrites x (p .bytes)) (σ .stored)) (λ y h. h)
-      (line-spread (storeWrites x (p .bytes)) (σ .stored) (store-sound x (p .bytes)) g)
-  own-spread (reserves x p) σ g =
+  own-laid (item p) σ g =
+      mapped-comes ItemsLaid OwnLaid OfLines (withItems σ) (textLine k line p (itemOf (p .bytes)) (σ .items)) (λ x h. (g .0, h))
+      (text-laid p (itemOf (p .bytes)) (σ .items) (g .1))
+  own-laid (stores x p) σ g =
+      mapped-comes (StoredLaid m) OwnLaid OfLines (withStored σ) (dataLine k line (storeWrites x (p .bytes)) (σ .stored)) (λ y h. (h, g .1))
+      (data-laid (storeWrites x (p .bytes)) (σ .stored) (store-sound x (p .bytes)) (g .0))
+  own-laid (reserves x p) σ g =
       let r = reservation x (immOf (p .bytes)) in
-      mapped-comes StoredSpread OwnSpread Early (withStored σ) (dataLine k line (mapped gap r ∷ []) (σ .stored)) (λ y h. h)
-      (line-spread (mapped gap r ∷ []) (σ .stored) (gap-sound r (reservation-sound x (immOf (p .bytes))), tt) g)
-  own-spread (reservesBss x p) σ g =
+      mapped-comes (StoredLaid m) OwnLaid OfLines (withStored σ) (dataLine k line (mapped gap r ∷ []) (σ .stored)) (λ y h. (h, g .1))
+      (data-laid (mapped gap r ∷ []) (σ .stored) (gap-sound r (reservation-sound x (immOf (p .bytes))), tt) (g .0))
+  own-laid (reservesBss x p) σ g =
       let r = reservation x (immOf (p .bytes)) in
-      mapped-comes (λ _. Unit) OwnSpread Early (withBss σ) (bssLine r (σ .bss)) (λ y u. g)
+      mapped-comes (λ _. Unit) OwnLaid OfLines (withBss σ) (bssLine r (σ .bss)) (λ y u. g)
       (bss-sound r (σ .bss) (reservation-sound x (immOf (p .bytes))))
 
 -- ---- equates
@@ -334,55 +342,76 @@ rising-last n (x ∷ es) e p g h = (g .0, rising-last (suc (x .line)) es e p (g 
 
 pub record RestLaid (m : ℕ) (σ : Rest) : Type 0 where
   pub equates : Rising 0 (σ .equates) m
-  pub words : StoredSpread (σ .own .stored)
+  pub words : Spread 0 (σ .own .stored .labelWords) (length (σ .own .stored .bytes))
+  pub wordLines : Each (LabelWordBelow m) (σ .own .stored .labelWords)
+  pub itemLines : Each (ItemBelow m) (σ .own .items .list)
 
 pub record Laid (m : ℕ) (σ : State) : Type 0 where
   pub labels : Apart (σ .labels)
   pub rest : RestLaid m (σ .rest)
 
 module _ (k : Room) (line : ℕ) where
-  says-laid : (s : Statement) (σ : Rest) → RestLaid line σ → ComesEarly (RestLaid (suc line)) (says k line s σ)
-  unfolding says addEquate
-  says-laid nothing σ g = record { equates = rising-more 0 (σ .equates) line (suc line) (omega arith) (g .equates); words = g .words }
-  says-laid (enters s) σ g = record { equates = rising-more 0 (σ .equates) line (suc line) (omega arith) (g .equates); words = g .words }
-  says-laid (equate name e) σ g =
-      let x : Equate = record { name = name; expr = e; place = here (σ .own); line = line } in
-      mapped-comes (λ es. Rising 0 es (suc line)) (RestLaid (suc line)) Early (withEquates σ) (addEquate k x (σ .equates))
-      (λ es h. record { equates = h; words = g .words })
-      (test-has (ComesEarly (λ es. Rising 0 es (suc line))) (ltb (length (σ .equates)) (k .equates)) (value (σ .equates ++ x ∷ [])) (refused 46)
-      (rising-last 0 (σ .equates) x (suc line) (g .equates) (omega arith)) refl)
-  says-laid (own s) σ g =
-      mapped-comes (OwnSpread k line) (RestLaid (suc line)) Early (withOwn σ) (ownLine k line s (σ .own))
-      (λ x h. record { equates = rising-more 0 (σ .equates) line (suc line) (omega arith) (g .equates); words = h })
-      (own-spread k line s (σ .own) (g .words))
+  abbrev OwnHere : Own → Type 0
+  OwnHere = OwnLaid k line (suc line) (omega arith)
 
-  step-laid : (p : Piece) (σ : State) → Laid line σ → ComesEarly (Laid (suc line)) (stepLine k line p σ)
+  rest-laid : (σ : Rest) → Rising 0 (σ .equates) (suc line) → OwnHere (σ .own) → RestLaid (suc line) σ
+  rest-laid σ e g = record { equates = e; words = g .0 .0; wordLines = g .0 .1; itemLines = g .1 }
+
+  statement-laid : (s : Statement) (σ : Rest) → RestLaid line σ → ComesSaid (RestLaid (suc line)) (statementStep k line s σ)
+  unfolding statementStep addEquate
+  statement-laid s σ g = by s
+    where
+      more : OwnHere (σ .own)
+      more = (
+        (g .words, each-weaker (LabelWordBelow line) (LabelWordBelow (suc line)) (λ w h. omega arith) (σ .own .stored .labelWords) (g .wordLines)),
+        each-weaker (ItemBelow line) (ItemBelow (suc line)) (λ x h. omega arith) (σ .own .items .list) (g .itemLines),
+      )
+
+      rising : Rising 0 (σ .equates) (suc line)
+      rising = rising-more 0 (σ .equates) line (suc line) (omega arith) (g .equates)
+
+      by : (s : Statement) → ComesSaid (RestLaid (suc line)) (statementStep k line s σ)
+      by nothing = rest-laid σ rising more
+      by (enters s) = rest-laid _ rising more
+      by (equate name e) =
+          let x : Equate = record { name = name; expr = e; place = here (σ .own); line = line } in
+          mapped-comes (λ es. Rising 0 es (suc line)) (RestLaid (suc line)) OfLines (withEquates σ) (addEquate k x (σ .equates))
+          (λ es h. rest-laid (withEquates σ es) h more)
+          (test-has (ComesSaid (λ es. Rising 0 es (suc line))) (ltb (length (σ .equates)) (k .equates)) (value (σ .equates ++ x ∷ [])) (refused 46)
+          (rising-last 0 (σ .equates) x (suc line) (g .equates) (omega arith)) refl)
+      by (own s) =
+          mapped-comes OwnHere (RestLaid (suc line)) OfLines (withOwn σ) (ownLine k line s (σ .own)) (λ x h. rest-laid (withOwn σ x) rising h)
+          (own-laid k line (suc line) (omega arith) s (σ .own) more)
+
+  step-laid : (p : Piece) (σ : State) → Laid line σ → ComesSaid (Laid (suc line)) (stepLine k line p σ)
   unfolding stepParsed
   step-laid p σ g =
       let l = lineOf (σ .rest .own .section) p in
-      let said : Rest → Result ℕ Rest = λ ρ. andThen (l .says) (λ s. says k line s ρ) in
-      and-then-comes Apart (Laid (suc line)) Early (labelStep k (here (σ .rest .own)) line (l .label) (σ .labels))
+      let said : Rest → Result ℕ Rest = λ ρ. andThen (l .says) (λ s. statementStep k line s ρ) in
+      and-then-comes Apart (Laid (suc line)) OfLines (labelStep k (here (σ .rest .own)) line (l .label) (σ .labels))
       (λ ls. mapped (withRest ls) (said (σ .rest)))
       (label-apart k (here (σ .rest .own)) line (l .label) (σ .labels) (g .labels)) (λ ls h.
-      mapped-comes (RestLaid (suc line)) (Laid (suc line)) Early (withRest ls) (said (σ .rest)) (λ ρ i. record { labels = h; rest = i })
-      (and-then-comes (λ _. Unit) (RestLaid (suc line)) Early (l .says) (λ s. says k line s (σ .rest)) (line-sound (σ .rest .own .section) p)
-      (λ s u. says-laid s (σ .rest) (g .rest))))
+      mapped-comes (RestLaid (suc line)) (Laid (suc line)) OfLines (withRest ls) (said (σ .rest)) (λ ρ i. record { labels = h; rest = i })
+      (and-then-comes (λ _. Unit) (RestLaid (suc line)) OfLines (l .says) (λ s. statementStep k line s (σ .rest))
+      (line-sound (σ .rest .own .section) p)
+      (λ s u. statement-laid s (σ .rest) (g .rest))))
 
-at-line-early : {A : Type 0} (P : A → Type 0) (line : ℕ) (x : Result ℕ A) → ComesEarly P x → Comes P EarlyAt (atLine line x)
-at-line-early P line (value a) h = h
-at-line-early P line (refused n) h = h
-
+-- what the stage leaves of m lines, or one of its refusals at one of them
 abbrev pub StageLaid : ℕ → Result Refusal State → Type 0
-StageLaid m x = Comes (Laid m) EarlyAt x
+StageLaid m x = Comes (Laid m) (Said lineNumbers m) x
 
 lines-laid : (k : Room) (line : ℕ) (ps : List Piece) (σ : State) → Laid line σ → StageLaid (line + length ps) (lineStage k line ps σ)
 unfolding lineStage
 lines-laid k line [] σ g = let e : line + 0 ≡ line = omega arith in rw e g
 lines-laid k line (p ∷ ps) σ g =
     let e : line + suc (length ps) ≡ suc line + length ps = omega arith in
-    rw e (and-then-comes (Laid (suc line)) (Laid (suc line + length ps)) EarlyAt (atLine line (stepLine k line p σ)) (lineStage k (suc line) ps)
-    (at-line-early (Laid (suc line)) line (stepLine k line p σ) (step-laid k line p σ g)) (lines-laid k (suc line) ps))
+    let m = suc line + length ps in
+    rw e (and-then-comes (Laid (suc line)) (Laid m) (Said lineNumbers m) (atLine line (stepLine k line p σ)) (lineStage k (suc line) ps)
+    (at-line-said (Laid (suc line)) lineNumbers line m (stepLine k line p σ) (omega arith) (step-laid k line p σ g)) (lines-laid k (suc line) ps))
 
-pub stage-laid : (t : List ℕ) (k : Room) → StageLaid (0 + length (linePieces 0 (lines t))) (lineStage k 0 (linePieces 0 (lines t)) start)
+-- the lines' own law
+pub stage-laid : (t : List ℕ) (k : Room) → StageLaid (length (lines t)) (lineStage k 0 (linePieces 0 (lines t)) start)
 stage-laid t k =
-    lines-laid k 0 (linePieces 0 (lines t)) start (record { labels = tt; rest = record { equates = omega arith; words = omega arith } })
+    rw (pieces-length 0 (lines t), zero-add (length (lines t))) at
+    (lines-laid k 0 (linePieces 0 (lines t)) start
+    (record { labels = tt; rest = record { equates = omega arith; words = omega arith; wordLines = tt; itemLines = tt } }))

@@ -264,13 +264,13 @@ cons-some j o a (some rest) ts e = (rest, refl, some-same e)
 
 module _ (look : List ℕ → Option ℤ) (at : ℤ) where
   -- an expression comes to its signed sum, from these tokens on
-  abbrev Comes : List Token → Wanted → Type 0
-  Comes tks w = (z : ℤ) (rest : List Term) → termsFrom w tks ≡ some rest → isWithin look at z rest ≡ true
+  abbrev ComesToSum : List Token → Wanted → Type 0
+  ComesToSum tks w = (z : ℤ) (rest : List Term) → termsFrom w tks ≡ some rest → isWithin look at z rest ≡ true
       → sumFrom look at z w tks ≡ asEvaluated z (signedSum look at rest)
 
   -- one term more
   term-comes : (sum y : ℤ) (j o : Bool) (a : Atom) (tks : List Token) (ts : List Term) → atomValue look at a ≡ some y
-      → consTerm j o a (termsFrom joint tks) ≡ some ts → isWithin look at sum ts ≡ true → Comes tks joint
+      → consTerm j o a (termsFrom joint tks) ≡ some ts → isWithin look at sum ts ≡ true → ComesToSum tks joint
       → addTerm sum j o y (λ z. sumFrom look at z joint tks) ≡ asEvaluated sum (signedSum look at ts)
   unfolding isWithin signedSum
   term-comes sum y j o a tks ts q e w ih = by (cons-some j o a (termsFrom joint tks) ts e)
@@ -309,7 +309,7 @@ module _ (look : List ℕ → Option ℤ) (at : ℤ) where
           ∙ ap (λ (x : Option ℤ). asEvaluated sum (plusTerm t x (signedSum look at (r .0)))) (sym q)
           ∙ ap (λ (us : List Term). asEvaluated sum (signedSum look at us)) (r .2)
 
-  sum-comes : (tks : List Token) (w : Wanted) → Comes tks w
+  sum-comes : (tks : List Token) (w : Wanted) → ComesToSum tks w
   unfolding sumFrom termsFrom signedSum
   sum-comes [] (term j o) sum ts e h = absurd (none-some e)
   sum-comes [] joint sum ts e h =
@@ -323,7 +323,7 @@ module _ (look : List ℕ → Option ℤ) (at : ℤ) where
       t : Term
       t = record { joining = j; own = o; atom = named m }
 
-      by : (x : Option ℤ) → look m ≡ x → Comes tks joint
+      by : (x : Option ℤ) → look m ≡ x → ComesToSum tks joint
           → onName x (λ v. addTerm sum j o v (λ z. sumFrom look at z joint tks)) ≡ asEvaluated sum (signedSum look at ts)
       by none q ih =
           let r = cons-some j o (named m) (termsFrom joint tks) ts e in

@@ -6,39 +6,39 @@ use mathlib.Core.Path.{_≡_, refl, sym, ap, _∙_}
 use mathlib.Core.List.{List, [], _∷_, _++_, map, append-assoc, append-nil}
 use lib.ListN.{length, take, drop, getD, set, replicate, length-append, length-set}
 use lib.Seq.{take-at, drop-at, drop-drop, drop-append-seam}
-use Rattle.layout.specs.Bytes.{le, put, padded, together}
-use Rattle.layout.specs.Records.{Field, four, fieldBytes, tableOf, leValue, fourAt, eightAt}
-use Rattle.layout.proofs.ByteLaws.{put-put, put-over, length-padded, put-pad, length-le, le-value, le-back}
+use Rattle.layout.specs.Bytes.{littleEndian, put, padded, together}
+use Rattle.layout.specs.Records.{RecordField, four, fieldBytes, tableOf, littleEndianValue, fourAt, eightAt}
+use Rattle.layout.proofs.ByteLaws.{put-put, put-over, length-padded, put-pad, length-little-endian, little-endian-value, little-endian-back}
 
 -- ---- fields side by side
 
-fields-more : (fs : List Field) (f : Field) → fieldBytes (fs ++ (f ∷ [])) ≡ fieldBytes fs ++ le (f .width) (f .number)
+fields-more : (fs : List RecordField) (f : RecordField) → fieldBytes (fs ++ (f ∷ [])) ≡ fieldBytes fs ++ littleEndian (f .width) (f .number)
 unfolding fieldBytes
-fields-more [] f = append-nil (le (f .width) (f .number))
+fields-more [] f = append-nil (littleEndian (f .width) (f .number))
 fields-more (x ∷ fs) f =
-    ap (λ (bs : List ℕ). le (x .width) (x .number) ++ bs) (fields-more fs f)
-    ∙ sym (append-assoc (le (x .width) (x .number)) (fieldBytes fs) (le (f .width) (f .number)))
+    ap (λ (bs : List ℕ). littleEndian (x .width) (x .number) ++ bs) (fields-more fs f)
+    ∙ sym (append-assoc (littleEndian (x .width) (x .number)) (fieldBytes fs) (littleEndian (f .width) (f .number)))
 
 -- the first field, and one right after others
-pub put-first : (at : ℕ) (f : Field) (xs ys : List ℕ) → ys ≡ put at (le (f .width) (f .number)) xs → ys ≡ put at (fieldBytes (f ∷ [])) xs
+pub put-first : (at : ℕ) (f : RecordField) (xs ys : List ℕ) → ys ≡ put at (littleEndian (f .width) (f .number)) xs → ys ≡ put at (fieldBytes (f ∷ [])) xs
 unfolding fieldBytes
-put-first at f xs ys e = rw (append-nil (le (f .width) (f .number))) e
+put-first at f xs ys e = rw (append-nil (littleEndian (f .width) (f .number))) e
 
-pub put-field : (at n : ℕ) (f : Field) (fs : List Field) (xs ys zs : List ℕ) → n ≡ at + length (fieldBytes fs) → n ≤ length xs
-    → ys ≡ put at (fieldBytes fs) xs → zs ≡ put n (le (f .width) (f .number)) ys → zs ≡ put at (fieldBytes (fs ++ (f ∷ []))) xs
+pub put-field : (at n : ℕ) (f : RecordField) (fs : List RecordField) (xs ys zs : List ℕ) → n ≡ at + length (fieldBytes fs) → n ≤ length xs
+    → ys ≡ put at (fieldBytes fs) xs → zs ≡ put n (littleEndian (f .width) (f .number)) ys → zs ≡ put at (fieldBytes (fs ++ (f ∷ []))) xs
 put-field at n f fs xs ys zs e h p q =
-    q ∙ ap (put n (le (f .width) (f .number))) p ∙ put-put at n (fieldBytes fs) (le (f .width) (f .number)) xs e h
+    q ∙ ap (put n (littleEndian (f .width) (f .number))) p ∙ put-put at n (fieldBytes fs) (littleEndian (f .width) (f .number)) xs e h
     ∙ ap (λ (bs : List ℕ). put at bs xs) (sym (fields-more fs f))
 
 -- a field after others is read back
-field-at : (front : List Field) (f : Field) (back : List Field) (rest : List ℕ)
-    → take (f .width) (drop (length (fieldBytes front)) (fieldBytes (front ++ (f ∷ back)) ++ rest)) ≡ le (f .width) (f .number)
+field-at : (front : List RecordField) (f : RecordField) (back : List RecordField) (rest : List ℕ)
+    → take (f .width) (drop (length (fieldBytes front)) (fieldBytes (front ++ (f ∷ back)) ++ rest)) ≡ littleEndian (f .width) (f .number)
 unfolding fieldBytes
 field-at [] f back rest =
-    ap (take (f .width)) (append-assoc (le (f .width) (f .number)) (fieldBytes back) rest)
-    ∙ take-at (le (f .width) (f .number)) (fieldBytes back ++ rest) (f .width) (length-le (f .width) (f .number))
+    ap (take (f .width)) (append-assoc (littleEndian (f .width) (f .number)) (fieldBytes back) rest)
+    ∙ take-at (littleEndian (f .width) (f .number)) (fieldBytes back ++ rest) (f .width) (length-little-endian (f .width) (f .number))
 field-at (x ∷ front) f back rest =
-    let b : List ℕ = le (x .width) (x .number) in
+    let b : List ℕ = littleEndian (x .width) (x .number) in
     let inner : List ℕ = fieldBytes (front ++ (f ∷ back)) ++ rest in
     let from : drop (length (b ++ fieldBytes front)) ((b ++ fieldBytes (front ++ (f ∷ back))) ++ rest) ≡ drop (length (fieldBytes front)) inner =
     rw (length-append b (fieldBytes front), append-assoc b (fieldBytes (front ++ (f ∷ back))) rest)
@@ -111,7 +111,7 @@ module _ {A : Type 0} (f : A → List ℕ) (n : ℕ) (sized : (r : A) → length
 
 -- ---- tables: f gives a record's fields, n is its size
 
-module _ {A : Type 0} (f : A → List Field) (n : ℕ) (sized : (r : A) → length (fieldBytes (f r)) ≡ n) where
+module _ {A : Type 0} (f : A → List RecordField) (n : ℕ) (sized : (r : A) → length (fieldBytes (f r)) ≡ n) where
   pub table-length : (size : ℕ) (rs : List A) → length rs * n ≤ size → length (tableOf size f rs) ≡ size
   table-length size rs h = length-padded size (together (map (λ r. fieldBytes (f r)) rs)) (rw (length-records (λ r. fieldBytes (f r)) n sized rs) h)
 
@@ -137,9 +137,9 @@ module _ {A : Type 0} (f : A → List Field) (n : ℕ) (sized : (r : A) → leng
         ∙ ap (λ (m : ℕ). together (map (λ x. fieldBytes (f x)) (set rs k r)) ++ replicate (length b - m) 0) lengths)
 
   -- a field of w bytes of the kth record is read back
-  read-field : (w : ℕ) (b : List ℕ) (rs : List A) (d : A) (k at v : ℕ) (front back : List Field) → b ≡ tableOf (length b) f rs → k < length rs
+  read-field : (w : ℕ) (b : List ℕ) (rs : List A) (d : A) (k at v : ℕ) (front back : List RecordField) → b ≡ tableOf (length b) f rs → k < length rs
       → f (getD rs k d) ≡ front ++ (record { width = w; number = v } ∷ back) → at ≡ k * n + length (fieldBytes front)
-      → leValue (take w (drop at b)) ≡ leValue (le w v)
+      → littleEndianValue (take w (drop at b)) ≡ littleEndianValue (littleEndian w v)
   read-field w b rs d k at v front back is h e q =
       let bytes : A → List ℕ = λ r. fieldBytes (f r) in
       let zs : List ℕ = replicate (length b - length (together (map bytes rs))) 0 in
@@ -148,19 +148,19 @@ module _ {A : Type 0} (f : A → List Field) (n : ℕ) (sized : (r : A) → leng
       ap (λ (i : ℕ). drop i b) q ∙ sym (drop-drop (length (fieldBytes front)) (k * n) b)
       ∙ ap (λ (xs : List ℕ). drop (length (fieldBytes front)) (drop (k * n) xs)) is
       ∙ ap (drop (length (fieldBytes front))) (records-from bytes n sized rs zs k h d)
-      ∙ ap (λ (fs : List Field). drop (length (fieldBytes front)) (fieldBytes fs ++ rest)) e in
-      ap (λ (xs : List ℕ). leValue (take w xs)) from ∙ ap leValue (field-at front (record { width = w; number = v }) back rest)
+      ∙ ap (λ (fs : List RecordField). drop (length (fieldBytes front)) (fieldBytes fs ++ rest)) e in
+      ap (λ (xs : List ℕ). littleEndianValue (take w xs)) from ∙ ap littleEndianValue (field-at front (record { width = w; number = v }) back rest)
 
-  pub read-four : (b : List ℕ) (rs : List A) (d : A) (k at v : ℕ) (front back : List Field) → b ≡ tableOf (length b) f rs → k < length rs
+  pub read-four : (b : List ℕ) (rs : List A) (d : A) (k at v : ℕ) (front back : List RecordField) → b ≡ tableOf (length b) f rs → k < length rs
       → f (getD rs k d) ≡ front ++ (record { width = 4; number = v } ∷ back) → at ≡ k * n + length (fieldBytes front) → v < 2 ^ 32
       → fourAt b at ≡ v
-  read-four b rs d k at v front back is h e q small = read-field 4 b rs d k at v front back is h e q ∙ le-back v small
+  read-four b rs d k at v front back is h e q small = read-field 4 b rs d k at v front back is h e q ∙ little-endian-back v small
 
   -- so is a kth record of four such fields
   pub read-row : (b : List ℕ) (rs : List A) (d : A) (k v w x y : ℕ) → b ≡ tableOf (length b) f rs → k < length rs
       → f (getD rs k d) ≡ four v ∷ four w ∷ four x ∷ four y ∷ [] → v < 2 ^ 32 → w < 2 ^ 32 → x < 2 ^ 32 → y < 2 ^ 32
       → (fourAt b (k * n) ≡ v) × (fourAt b (k * n + 4) ≡ w) × (fourAt b (k * n + 8) ≡ x) × (fourAt b (k * n + 12) ≡ y)
-  unfolding fieldBytes le
+  unfolding fieldBytes littleEndian
   read-row b rs d k v w x y is h e sv sw sx sy = (
     read-four b rs d k (k * n) v [] _ is h e (omega arith) sv,
     read-four b rs d k (k * n + 4) w (four v ∷ []) _ is h e refl sw,
@@ -168,10 +168,10 @@ module _ {A : Type 0} (f : A → List Field) (n : ℕ) (sized : (r : A) → leng
     read-four b rs d k (k * n + 12) y (four v ∷ four w ∷ four x ∷ []) _ is h e refl sy,
   )
 
-  pub read-eight : (b : List ℕ) (rs : List A) (d : A) (k at v : ℕ) (front back : List Field) → b ≡ tableOf (length b) f rs → k < length rs
+  pub read-eight : (b : List ℕ) (rs : List A) (d : A) (k at v : ℕ) (front back : List RecordField) → b ≡ tableOf (length b) f rs → k < length rs
       → f (getD rs k d) ≡ front ++ (record { width = 8; number = v } ∷ back) → at ≡ k * n + length (fieldBytes front) → v < 2 ^ 64
       → eightAt b at ≡ v
-  read-eight b rs d k at v front back is h e q small = read-field 8 b rs d k at v front back is h e q ∙ le-value 8 v ∙ mod-eq-of-lt small
+  read-eight b rs d k at v front back is h e q small = read-field 8 b rs d k at v front back is h e q ∙ little-endian-value 8 v ∙ mod-eq-of-lt small
 
   -- a table's records lie within it
   pub table-lent : (b : List ℕ) (rs : List A) → b ≡ tableOf (length b) f rs → length rs * n ≤ length b

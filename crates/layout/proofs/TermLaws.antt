@@ -18,6 +18,7 @@ use Rattle.numbers.specs.declared.ints.Checked.the-variants.{Fits, Beyond}
 use Rattle.numbers.specs.code.Meanings.{checkedValue}
 use Rattle.layout.specs.declared.tokens.Token as code
 use Rattle.layout.specs.declared.tokens.Token.the-variants as kind
+use Rattle.layout.specs.declared.tokens.Sign.the-variants as sign
 use Rattle.layout.specs.declared.tokens.TokenAt.the-variants as scanned
 use Rattle.layout.specs.declared.expr.Joint.{Joint}
 use Rattle.layout.specs.declared.expr.Joint.the-variants.{Operator, End, Malformed}
@@ -25,9 +26,9 @@ use Rattle.layout.specs.declared.expr.Partial.{Partial}
 use Rattle.layout.specs.declared.expr.Evaluated as answer
 use Rattle.layout.specs.declared.expr.Evaluated.the-variants.{Value, Waits, Refused}
 use Rattle.layout.specs.Bytes.{isDigit}
-use Rattle.layout.specs.Expressions.{Token, plus, minus, dot, number, name, unreadable, Evaluated, positive, negative, term, joint}
+use Rattle.layout.specs.Expressions.{Token, plus, minus, dot, number, name, unreadable, Evaluated, positive, term, joint}
 use Rattle.layout.specs.Expressions.{isNameByte, isNumberByte, tokens, anyUnreadable, addTerm, onName, sumFrom, evaluate}
-use Rattle.layout.specs.code.Tokens.{tokenOf, numeral, TokenStands, spacedIn, blankIn, tokensFrom, TokenLeads}
+use Rattle.layout.specs.code.Tokens.{tokenOf, numeral, signOf, TokenStands, spacedIn, blankIn, tokensFrom, TokenLeads}
 use Rattle.layout.specs.code.Terms.{ownSign, unsigned, IsOperand, TermStands, NoTerm, termValue, AddsTerm, NoJoint, JointStands, JointFrom, JointAt}
 use Rattle.layout.specs.code.Terms.{wantedAt, sumOn, evaluationOf, Extends, GoesOn, Waiting, Evaluates}
 use Rattle.layout.proofs.TokenLaws.{plus-stands, minus-stands, number-stands, other-stands, dot-stands, name-stands}
@@ -201,15 +202,13 @@ module _ (oneSpace : Bool) (s : List ℕ) (at k : ℕ) (e : k ≡ at + leading (
       alone unreadable ts n = n
 
   module _ (h : k < length s) where
-    pub joint-plus : getD s k 0 ≡ 43 → JointStands oneSpace s at positive (k + 1)
-    joint-plus q = let l = reads kind.Plus (k + 1) (plus-stands s k h q) in record { leads = l .leads; further = l .further; within = l .within }
-
-    pub joint-minus : getD s k 0 ≡ 45 → JointStands oneSpace s at negative (k + 1)
-    joint-minus q = let l = reads kind.Minus (k + 1) (minus-stands s k h q) in record { leads = l .leads; further = l .further; within = l .within }
+    pub joint-sign : (minus : Bool) → signOf (getD s k 0) ≡ sign.Is minus → JointStands oneSpace s at minus (k + 1)
+    joint-sign false q = let l = reads kind.Plus (k + 1) (plus-stands s k h q) in record { leads = l .leads; further = l .further; within = l .within }
+    joint-sign true q = let l = reads kind.Minus (k + 1) (minus-stands s k h q) in record { leads = l .leads; further = l .further; within = l .within }
 
     -- any other byte begins a token that joins nothing
-    pub joint-other : (getD s k 0 ≡ 43 → ⊥) → (getD s k 0 ≡ 45 → ⊥) → NoJoint (tokensFrom oneSpace s at)
-    joint-other p m = by (isDigit (getD s k 0)) refl (isNameByte (getD s k 0)) refl (eqb (getD s k 0) 46 && eqb (end - k) 1) refl
+    pub joint-other : signOf (getD s k 0) ≡ sign.Nothing → NoJoint (tokensFrom oneSpace s at)
+    joint-other z = by (isDigit (getD s k 0)) refl (isNameByte (getD s k 0)) refl (eqb (getD s k 0) 46 && eqb (end - k) 1) refl
       where
         end : ℕ
         end = k + leading isNameByte (drop k s)
@@ -223,9 +222,9 @@ module _ (oneSpace : Bool) (s : List ℕ) (at k : ℕ) (e : k ≡ at + leading (
         by true d n f o q =
             let stop = k + leading isNumberByte (drop k s) in
             no-operator _ stop (number-stands s k h d stop refl _ refl) (numeral-joins (numberOf (take (stop - k) (drop k s))))
-        by false d false f o q = no-operator _ _ (other-stands s k h p m d f) tt
-        by false d true f true q = no-operator _ end (dot-stands s k h p m d f end refl q) tt
-        by false d true f false q = no-operator _ end (name-stands s k h p m d f end refl q) tt
+        by false d false f o q = no-operator _ _ (other-stands s k h z d f) tt
+        by false d true f true q = no-operator _ end (dot-stands s k h z d f end refl q) tt
+        by false d true f false q = no-operator _ end (name-stands s k h z d f end refl q) tt
 
 -- where a sum goes on
 pub joint-first : (oneSpace : Bool) (s : List ℕ) (at : ℕ) → at ≡ 0 → JointAt oneSpace s at (Operator positive 0)

@@ -17,9 +17,11 @@ use Rattle.numbers.proofs.Bools.{and-left, and-right}
 use Rattle.numbers.proofs.Trims.{leading-more, leading-within}
 use Rattle.layout.specs.declared.tokens.Token as code
 use Rattle.layout.specs.declared.tokens.Token.the-variants as kind
+use Rattle.layout.specs.declared.tokens.Sign.{Sign}
+use Rattle.layout.specs.declared.tokens.Sign.the-variants as sign
 use Rattle.layout.specs.Bytes.{isDigit}
-use Rattle.layout.specs.Expressions.{Token, name, isBlank, isNameByte, isNumberByte, numberToken, nameToken, scan, tokensIn, tokens}
-use Rattle.layout.specs.code.Tokens.{tokenOf, numeral, TokenWithin, TokenStands}
+use Rattle.layout.specs.Expressions.{Token, name, isBlank, isNameByte, isNumberByte, numberToken, nameToken, positive, negative, scan, tokensIn, tokens}
+use Rattle.layout.specs.code.Tokens.{tokenOf, numeral, signOf, TokenWithin, TokenStands}
 use Rattle.layout.proofs.Ending.{scan-takes, tokens-fuel}
 
 -- ---- numbers
@@ -79,6 +81,31 @@ run-number b bs e =
     let k = run-first b bs (rw e refl) in
     rw k (unsigned-number b (take (leading isNumberByte bs) bs) (digit-high b e) (rw k at (run-kept (b ∷ bs))))
 
+-- ---- signs
+
+-- a byte by what it is as a sign
+module _ (b : ℕ) where
+  sign-by : (P : Sign → Type 0) → (eqb b 43 ≡ true → P (sign.Is positive)) → (eqb b 43 ≡ false → eqb b 45 ≡ true → P (sign.Is negative))
+      → (eqb b 43 ≡ false → eqb b 45 ≡ false → P sign.Nothing) → P (signOf b)
+  sign-by P on-plus on-minus on-other = go (eqb b 43) refl (eqb b 45) refl
+    where
+      go : (t : Bool) → eqb b 43 ≡ t → (u : Bool) → eqb b 45 ≡ u → P (cond t (sign.Is positive) (cond u (sign.Is negative) sign.Nothing))
+      go true e u f = on-plus e
+      go false e true f = on-minus e f
+      go false e false f = on-other e f
+
+  sign-plus : signOf b ≡ sign.Is positive → b ≡ 43
+  sign-plus = sign-by (λ x. x ≡ sign.Is positive → b ≡ 43) (λ e h. eqb-true b 43 e) (λ e f h. cc) (λ e f h. cc)
+
+  sign-minus : signOf b ≡ sign.Is negative → b ≡ 45
+  sign-minus = sign-by (λ x. x ≡ sign.Is negative → b ≡ 45) (λ e h. cc) (λ e f h. eqb-true b 45 f) (λ e f h. cc)
+
+  no-plus : signOf b ≡ sign.Nothing → eqb b 43 ≡ false
+  no-plus = sign-by (λ x. x ≡ sign.Nothing → eqb b 43 ≡ false) (λ e h. cc) (λ e f h. e) (λ e f h. e)
+
+  no-minus : signOf b ≡ sign.Nothing → eqb b 45 ≡ false
+  no-minus = sign-by (λ x. x ≡ sign.Nothing → eqb b 45 ≡ false) (λ e h. cc) (λ e f h. cc) (λ e f h. f)
+
 -- ---- what stands at a place
 
 numeral-token : (s : List ℕ) (o : Option ℤ) → numberToken o ≡ tokenOf s (numeral o)
@@ -102,13 +129,13 @@ name-run (suc (suc n)) b (y ∷ ys) h k e = refl
 
 -- a token of one byte
 module _ (s : List ℕ) (at : ℕ) (h : at < length s) where
-  pub plus-stands : getD s at 0 ≡ 43 → TokenStands s at kind.Plus (at + 1)
+  pub plus-stands : signOf (getD s at 0) ≡ sign.Is positive → TokenStands s at kind.Plus (at + 1)
   unfolding scan
-  plus-stands e = record { token = rw e refl; next = rw e refl; start = h; within = omega arith; named = tt }
+  plus-stands q = let e = sign-plus (getD s at 0) q in record { token = rw e refl; next = rw e refl; start = h; within = omega arith; named = tt }
 
-  pub minus-stands : getD s at 0 ≡ 45 → TokenStands s at kind.Minus (at + 1)
+  pub minus-stands : signOf (getD s at 0) ≡ sign.Is negative → TokenStands s at kind.Minus (at + 1)
   unfolding scan
-  minus-stands e = record { token = rw e refl; next = rw e refl; start = h; within = omega arith; named = tt }
+  minus-stands q = let e = sign-minus (getD s at 0) q in record { token = rw e refl; next = rw e refl; start = h; within = omega arith; named = tt }
 
   -- a run from a place on lies within the text
   pub run-within : (test : ℕ → Bool) → at + leading test (drop at s) ≤ length s
@@ -135,13 +162,13 @@ module _ (s : List ℕ) (at : ℕ) (h : at < length s) where
         named = rw is (numeral-within s (prefixed run));
       }
 
-  module _ (p : getD s at 0 ≡ 43 → ⊥) (m : getD s at 0 ≡ 45 → ⊥) (d : isDigit (getD s at 0) ≡ false) where
+  module _ (n : signOf (getD s at 0) ≡ sign.Nothing) (d : isDigit (getD s at 0) ≡ false) where
     -- a byte that begins no token
     pub other-stands : isNameByte (getD s at 0) ≡ false → TokenStands s at kind.Unreadable (at + 1)
     unfolding scan
     other-stands e = record {
-      token = rw (ne-eqb _ _ p, ne-eqb _ _ m, e, d) refl;
-      next = rw (ne-eqb _ _ p, ne-eqb _ _ m, e, d) refl;
+      token = rw (no-plus (getD s at 0) n, no-minus (getD s at 0) n, e, d) refl;
+      next = rw (no-plus (getD s at 0) n, no-minus (getD s at 0) n, e, d) refl;
       start = h;
       within = omega arith;
       named = tt;
@@ -153,11 +180,11 @@ module _ (s : List ℕ) (at : ℕ) (h : at < length s) where
 
       name-scan : (t : Token) → nameToken (take (end - at) (drop at s)) ≡ t → scan (getD s at 0) (drop at s) .token ≡ t
       unfolding scan
-      name-scan t k = rw (ne-eqb _ _ p, ne-eqb _ _ m, e, d) (rw name-size at k)
+      name-scan t k = rw (no-plus (getD s at 0) n, no-minus (getD s at 0) n, e, d) (rw name-size at k)
 
       name-next : end ≡ at + scan (getD s at 0) (drop at s) .size
       unfolding scan
-      name-next = rw (ne-eqb _ _ p, ne-eqb _ _ m, e, d) q
+      name-next = rw (no-plus (getD s at 0) n, no-minus (getD s at 0) n, e, d) q
 
       -- a dot alone
       pub dot-stands : eqb (getD s at 0) 46 && eqb (end - at) 1 ≡ true → TokenStands s at kind.Dot end

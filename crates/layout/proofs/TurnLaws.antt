@@ -12,6 +12,7 @@ use lib.Seq.{drop-drop, length-take-le}
 use Rattle.numbers.specs.Results.{Result, value, refused, andThen}
 use Rattle.numbers.specs.declared.text.Span.{Span}
 use Rattle.numbers.specs.Text.{startsWith, same, indexOf}
+use Rattle.numbers.specs.Operands.{consFirst}
 use Rattle.numbers.proofs.Places.{index-within}
 use Rattle.layout.specs.declared.limits.Room.{Room}
 use Rattle.layout.specs.declared.state.Section.{Section}
@@ -20,11 +21,11 @@ use Rattle.layout.specs.declared.scan.Cut.{Cut}
 use Rattle.layout.specs.Bytes.{together}
 use Rattle.layout.specs.Refusals.{Refusal, atLine}
 use Rattle.layout.specs.Limits.{Lent, roomOf}
-use Rattle.layout.specs.Pieces.{Piece, piece, consLine, lines, linePieces, statementOf}
+use Rattle.layout.specs.Pieces.{Piece, piece, lines, linePieces, statementOf}
 use Rattle.layout.specs.Statements.{unlabelledOf, labelled, parsed}
 use Rattle.layout.specs.State.{State, start}
-use Rattle.layout.specs.Stage.{labelStep, says, stepParsed, stepLine, lineStage}
-use Rattle.layout.specs.code.Steps.{Agrees, Steps}
+use Rattle.layout.specs.Stage.{labelStep, statementStep, stepParsed, stepLine, lineStage}
+use Rattle.layout.specs.code.Steps.{Steps}
 use Rattle.layout.specs.code.Spans.{lineAt}
 use Rattle.layout.specs.code.Cuts.{cutLine, LineCut}
 use Rattle.layout.specs.code.Index.{labelIndexRoom}
@@ -32,12 +33,13 @@ use Rattle.layout.specs.code.Tables.{exprRoom, labelWordRoom}
 use Rattle.layout.specs.code.Stands.{Store, store, Stands, startCounters}
 use Rattle.layout.proofs.IndexLaws.{indexed-none, distinct-none}
 use Rattle.layout.proofs.Kept.{start-fits}
+use Rattle.layout.proofs.StepLaws.{agreed, agreed-refused}
 
 -- ---- the lines
 
 -- the first line runs to the first LF, and the others follow it
 lines-test : (b : ℕ) (bs : List ℕ) (c : Bool) → eqb b 10 ≡ c
-    → consLine b (lines bs) ≡ (b ∷ take (indexOf 10 bs) bs) ∷ lines (drop (suc (indexOf 10 bs)) bs)
+    → consFirst b (lines bs) ≡ (b ∷ take (indexOf 10 bs) bs) ∷ lines (drop (suc (indexOf 10 bs)) bs)
     → lines (b ∷ bs) ≡ take (indexOf 10 (b ∷ bs)) (b ∷ bs) ∷ lines (drop (suc (indexOf 10 (b ∷ bs))) (b ∷ bs))
 unfolding lines indexOf
 lines-test b bs true e ih = rw (lines, indexOf, e)
@@ -47,7 +49,7 @@ lines-split : (t : List ℕ) → 0 < length t → lines t ≡ take (indexOf 10 t
 unfolding lines indexOf
 lines-split [] h = absurd (not-suc-le-zero h)
 lines-split (b ∷ []) h = lines-test b [] (eqb b 10) refl refl
-lines-split (b ∷ c ∷ cs) h = lines-test b (c ∷ cs) (eqb b 10) refl (ap (consLine b) (lines-split (c ∷ cs) (omega arith)))
+lines-split (b ∷ c ∷ cs) h = lines-test b (c ∷ cs) (eqb b 10) refl (ap (consFirst b) (lines-split (c ∷ cs) (omega arith)))
 
 -- the lines from a place on
 abbrev pub linesFrom : List ℕ → ℕ → List Piece
@@ -74,7 +76,7 @@ module _ (t : List ℕ) (at end : ℕ) (h : at < length t) (q : end ≡ at + ind
 
 -- a line whose statement is empty leaves the state as it is
 blank-line : (k : Room) (line n : ℕ) (s : Section) (σ : State) (bytes : List ℕ) → length bytes ≡ 0 → stepParsed k line (parsed s (piece n bytes)) σ ≡ value σ
-unfolding stepParsed parsed labelled unlabelledOf labelStep says startsWith same indexOf
+unfolding stepParsed parsed labelled unlabelledOf labelStep statementStep startsWith same indexOf
 blank-line k line n s σ [] e = refl
 blank-line k line n s σ (x ∷ xs) e = absurd (omega arith)
 
@@ -121,27 +123,18 @@ module _ (t : List ℕ) (k : Room) (b : Store) (c : Counters) (at line : ℕ) (h
       here-on m e = rw (← e, add-one line) (ap (λ (ps : List Piece). lineStage k line ps (h .σ)) (sym cut-there) ∙ h .goes)
 
       pub turn-go : (c′ : Counters) → r ≡ value c′ → Head t k b′ c′ (cut .end + 1) (line + 1)
-      turn-go c′ e = by (stepLine k line (cutLine t cut) (h .σ)) refl (rw e at (steps (h .σ) (h .stands)))
-        where
-          by : (m : Result ℕ State) → stepLine k line (cutLine t cut) (h .σ) ≡ m → Agrees (λ d. Stands t k d b′) (value c′) m
-              → Head t k b′ c′ (cut .end + 1) (line + 1)
-          by (value τ) f a =
-              record {
-                σ = τ;
-                stands = a;
-                counted = omega (arith, h .counted, ends);
-                within = omega (arith, end-within t at (cut .end) below ends);
-                goes = here-on (value τ) f;
-              }
-          by (refused n) f a = absurd a
+      turn-go c′ e =
+          let a = agreed (λ d. Stands t k d b′) c′ (stepLine k line (cutLine t cut) (h .σ)) (rw e at (steps (h .σ) (h .stands))) in
+          record {
+            σ = a .it;
+            stands = a .stands;
+            counted = omega (arith, h .counted, ends);
+            within = omega (arith, end-within t at (cut .end) below ends);
+            goes = here-on (value (a .it)) (a .is);
+          }
 
       pub turn-stop : (n : ℕ) → r ≡ refused n → whole k t ≡ refused (record { number = n; line = line })
-      turn-stop n e = by (stepLine k line (cutLine t cut) (h .σ)) refl (rw e at (steps (h .σ) (h .stands)))
-        where
-          by : (m : Result ℕ State) → stepLine k line (cutLine t cut) (h .σ) ≡ m → Agrees (λ d. Stands t k d b′) (refused n) m
-              → whole k t ≡ refused (record { number = n; line = line })
-          by (value τ) f a = absurd a
-          by (refused i) f a = sym (here-on (refused i) f) ∙ ap (λ (j : ℕ). refused (record { number = j; line = line })) (sym a)
+      turn-stop n e = sym (here-on (refused n) (agreed-refused (λ d. Stands t k d b′) n (stepLine k line (cutLine t cut) (h .σ)) (rw e at (steps (h .σ) (h .stands)))))
 
     -- a line without a statement leaves all as it is
     pub turn-blank : cut .part .len ≤ 0 → Head t k b c (cut .end + 1) (line + 1)

@@ -15,7 +15,7 @@ use Rattle.layout.specs.declared.expr.Evaluated as answer
 use Rattle.layout.specs.declared.expr.Evaluated.the-variants.{Value, Waits, Refused}
 use Rattle.layout.specs.declared.state.Section.{Section}
 use Rattle.layout.specs.declared.state.Section.the-variants as section
-use Rattle.layout.specs.Bytes.{le}
+use Rattle.layout.specs.Bytes.{littleEndian}
 use Rattle.layout.specs.State.{Equate}
 use Rattle.layout.specs.Stage.{isLabel}
 use Rattle.layout.specs.Records.{fieldBytes, fourAt}
@@ -32,13 +32,13 @@ use Rattle.layout.specs.code.Resolves.{knownExpr, TurnStand, noKnown, eq
 use Rattle.layout.proofs.TableLaws.{read-row, table-lent}
 use Rattle.layout.proofs.KnownLaws.{fits-at, name-back}
 use Rattle.layout.proofs.TermLaws.{extends-self}
-use Rattle.layout.proofs.ResolveLaws.{placeOf}
+use Rattle.layout.proofs.ResolveLaws.{ownAddressOf}
 use Rattle.layout.proofs.RoundSteps.{turn-label, turn-known, turn-evaluates}
 
 -- ---- the expression's record
 
 expr-sized : (k : Known) → length (fieldBytes (knownExpr k)) ≡ exprSize
-unfolding fieldBytes le
+unfolding fieldBytes littleEndian
 expr-sized k = refl
 
 flag-back : (b : Bool) → eqb (flagOf b) 1 ≡ b
@@ -57,7 +57,7 @@ code-small section.Bss o h = omega arith
 -- what is summed or evaluated of an equate's expression
 abbrev EvaluatesOne : Scope → Equate → (Bool → List ℕ → ℤ → (List ℕ → Option ℤ) → Evaluated) → answer.Evaluated → Type 0
 EvaluatesOne s e f r =
-    Evaluates (lookIn s) (e .expr .oneSpace) (e .expr .source .bytes) (placeOf (s .base) (s .state) e) (f (e .expr .oneSpace) (e .expr .source .bytes) (placeOf (s .base) (s .state) e)) r
+    Evaluates (lookIn s) (e .expr .oneSpace) (e .expr .source .bytes) (ownAddressOf (s .base) (s .state) e) (f (e .expr .oneSpace) (e .expr .source .bytes) (ownAddressOf (s .base) (s .state) e)) r
 
 module _ {t l n : List ℕ} {c : ℕ} {starts : Starts} {e x : List ℕ} {m : ℕ} {exprs : List ℕ} {s : Scope}
     (d : TurnStand t l n c starts e x m exprs s) (k : ℕ) (below : k < m) where
@@ -117,9 +117,9 @@ module _ {t l n : List ℕ} {c : ℕ} {starts : Starts} {e x : List ℕ} {m : �
     pub evaluated-told : (f : Bool → List ℕ → ℤ → (List ℕ → Option ℤ) → Evaluated) (here : ℕ) → here ≡ addressAt (s .base) (s .state) (one .place) → (r : answer.Evaluated)
         → Evaluates (lookIn s) oneSpace bytes (pos here) (f oneSpace bytes (pos here)) r → EvaluatesOne s one f r
     evaluated-told f here h r v =
-        subst (λ (x : List ℕ). Evaluates (lookIn s) (one .expr .oneSpace) x (placeOf (s .base) (s .state) one) (f (one .expr .oneSpace) x (placeOf (s .base) (s .state) one)) r)
+        subst (λ (x : List ℕ). Evaluates (lookIn s) (one .expr .oneSpace) x (ownAddressOf (s .base) (s .state) one) (f (one .expr .oneSpace) x (ownAddressOf (s .base) (s .state) one)) r)
         (p ∙ expr-bytes)
-        (subst (λ (o : Bool). Evaluates (lookIn s) o bytes (placeOf (s .base) (s .state) one) (f o bytes (placeOf (s .base) (s .state) one)) r) (q ∙ expr-flag)
+        (subst (λ (o : Bool). Evaluates (lookIn s) o bytes (ownAddressOf (s .base) (s .state) one) (f o bytes (ownAddressOf (s .base) (s .state) one)) r) (q ∙ expr-flag)
         (subst (λ (a : ℕ). Evaluates (lookIn s) oneSpace bytes (pos a) (f oneSpace bytes (pos a)) r) h v))
 
 -- ---- the turn
@@ -147,11 +147,8 @@ module _ (s : Scope) (e : Equate) where
         )
         by (Refused n) v = tt
 
-  -- it has waited: another equate of its name is found, or its sum goes on
+  -- it has waited: its sum goes on
   module _ (p : Partial) (b : Blocked s e p) where
-    pub again-known : isSome (constant (s .known) (e .name .bytes)) ≡ true → TurnGives s e (Refused 15)
-    again-known h = gives-known (b .no-label) h
-
     pub again-summed : isSome (constant (s .known) (e .name .bytes)) ≡ false → (r : answer.Evaluated)
         → EvaluatesOne s e (λ oneSpace x here. sumOn oneSpace x here p) r → TurnGives s e r
     unfolding lookIn

@@ -20,8 +20,8 @@ laid t = layoutOf t 0 full
 abbrev pub wordsOf : List ℕ → Result Refusal (List ℕ)
 wordsOf t = mapped (λ l. l .words) (laid t)
 
-abbrev pub dataOf : List ℕ → Result Refusal (List ℕ)
-dataOf t = mapped (λ l. l .dataBytes) (laid t)
+abbrev pub laidData : List ℕ → Result Refusal (List ℕ)
+laidData t = mapped (λ l. l .dataBytes) (laid t)
 
 abbrev pub no : {A : Type 0} → ℕ → ℕ → Result Refusal A
 no n line = refused (record { number = n; line = line })
@@ -49,15 +49,15 @@ pub twelve-cases :
     × (aligned 3 1 ≡ 1)
     × (aligned 3 2 ≡ 4)
     × (aligned 3 3 ≡ 5)
-    × (dataOf (text ".data\n.byte 1\n.align 3") ≡ value (1 ∷ []))
-    × (dataOf (text ".data\n.byte 1,2\n.align 3") ≡ value (1 ∷ 2 ∷ 0 ∷ 0 ∷ []))
-    × (dataOf (text ".data\n.byte 1,2,3\n.align 3") ≡ value (1 ∷ 2 ∷ 3 ∷ 0 ∷ 0 ∷ []))
+    × (laidData (text ".data\n.byte 1\n.align 3") ≡ value (1 ∷ []))
+    × (laidData (text ".data\n.byte 1,2\n.align 3") ≡ value (1 ∷ 2 ∷ 0 ∷ 0 ∷ []))
+    × (laidData (text ".data\n.byte 1,2,3\n.align 3") ≡ value (1 ∷ 2 ∷ 3 ∷ 0 ∷ 0 ∷ []))
     -- 8
-    × (dataOf (text ".data\n.byte --5") ≡ value (5 ∷ []))
-    × (dataOf (text ".data\n.byte 256") ≡ no 7 1)
+    × (laidData (text ".data\n.byte --5") ≡ value (5 ∷ []))
+    × (laidData (text ".data\n.byte 256") ≡ no 7 1)
     -- 9
-    × (dataOf (text ".data\n.dword -9223372036854775808") ≡ no 6 1)
-    × (dataOf (text ".data\n.dword +-9223372036854775808") ≡ value (0 ∷ 0 ∷ 0 ∷ 0 ∷ 0 ∷ 0 ∷ 0 ∷ 0x80 ∷ []))
+    × (laidData (text ".data\n.dword -9223372036854775808") ≡ no 6 1)
+    × (laidData (text ".data\n.dword +-9223372036854775808") ≡ value (0 ∷ 0 ∷ 0 ∷ 0 ∷ 0 ∷ 0 ∷ 0 ∷ 0x80 ∷ []))
     -- 10
     × (laid (text "a = b+1\nb = c+1\nc = 5") ≡ value (record {
       words = [];
@@ -75,7 +75,7 @@ pub twelve-cases :
     -- 11
     × (laid (text "a = b\nb = a") ≡ no 17 0)
     -- 12
-    × (dataOf (text ".data\nt: .byte 1\nt: .byte 2\n.word t") ≡ value (0x01 ∷ 0x02 ∷ 0x01 ∷ 0x10 ∷ 0x00 ∷ 0x00 ∷ []))
+    × (laidData (text ".data\nt: .byte 1\nt: .byte 2\n.word t") ≡ value (0x01 ∷ 0x02 ∷ 0x01 ∷ 0x10 ∷ 0x00 ∷ 0x00 ∷ []))
 unfolding computing
 twelve-cases =
     (refl, refl, refl, refl, refl, refl, refl, refl, refl, refl, refl, refl, refl, refl, refl, refl, refl, refl, refl, refl, refl, refl, refl)

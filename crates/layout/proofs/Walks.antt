@@ -134,8 +134,8 @@ module _ {M : Type 1} (𝓤 : URA M) (H : Heap 𝓤) (𝓜 : Model 𝓤 H) (𝓖
 -- ---- steps of a walk
 module _ {M : Type 1} {𝓤 : URA M} {H : Heap 𝓤} {A : Atoms 𝓤} {K : Type 0} {W : Given 𝓤 H A} {Γ : List (Item 𝓤)} where
   -- what a number owns is a fact, and made where it is asked
-  pub number : K → {G : Goal 𝓤 H} (n : ℕ) → n < 2 ^ 64 → Step K W (‵ (usize .own n (vint w64 n ∷ [])) ∷ Γ) G Γ G
-  number t n fits = owned t usize (Is usize) (uint-makes 𝓤 H A W w64) n (vint w64 n ∷ []) (refl, fits)
+  pub number-owned : K → {G : Goal 𝓤 H} (n : ℕ) → n < 2 ^ 64 → Step K W (‵ (usize .own n (vint w64 n ∷ [])) ∷ Γ) G Γ G
+  number-owned t n fits = owned t usize (Is usize) (uint-makes 𝓤 H A W w64) n (vint w64 n ∷ []) (refl, fits)
 
   -- the i-th local is read, which stands n-th in the context
   pub local : K → {E : Env 𝓤 H} {i : ℕ} (n : ℕ) {q : Share} {v : Val} → nth 𝓤 H A n Γ ≡ ‵ (fat q (spotOf 𝓤 H E i .0) (spotOf 𝓤 H E i .1) (spotOf 𝓤 H E i .2) v) → Opd K W Γ E (copy (place i [])) v

@@ -7,9 +7,9 @@ use lib.ListN.{length, take, drop, replicate}
 use Rattle.numbers.specs.Text.{byte, same}
 
 -- "Bytes are little-endian": the w low bytes of v
-unfoldable pub le : ℕ → ℕ → List ℕ
-le zero v = []
-le (suc w) v = v % 256 ∷ le w (v / 256)
+unfoldable pub littleEndian : ℕ → ℕ → List ℕ
+littleEndian zero v = []
+littleEndian (suc w) v = v % 256 ∷ littleEndian w (v / 256)
 
 -- xs with vs in place of what stands from a place on
 abbrev pub put : ℕ → List ℕ → List ℕ → List ℕ

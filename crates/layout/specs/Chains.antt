@@ -21,8 +21,8 @@ pub data Among {A : Type 0} (x : A) : List A → Type 0 where
 abbrev pub nameOf : Equate → List ℕ
 nameOf e = e .name .bytes
 
-abbrev pub equateNames : State → List (List ℕ)
-equateNames σ = map nameOf (σ .rest .equates)
+abbrev pub equatedNames : State → List (List ℕ)
+equatedNames σ = map nameOf (σ .rest .equates)
 
 -- ---- chains
 
@@ -34,7 +34,7 @@ pub data Reaches (es : List Equate) : Equate → List ℕ → Type 0 where
 
 -- "a name in neither is undefined": neither an equate nor a label
 pub record Undefined (σ : State) (n : List ℕ) : Type 0 where
-  pub noEquate : isOneOf (equateNames σ) n ≡ false
+  pub noEquate : isOneOf (equatedNames σ) n ≡ false
   pub noLabel : isLabel n (σ .labels) ≡ false
 
 -- e "starts a chain of uses that comes back to a name in it or reaches an undefined one". It comes back to the name of d, which is e itself or an
@@ -92,6 +92,6 @@ areDistinct (n ∷ ns) = not (isOneOf ns n) && areDistinct ns
 -- "all expressions are well formed, names distinct and no label, and none of 24's products and partial sums overflows"
 pub record Conditions (base : ℕ) (σ : State) : Type 0 where
   pub wellFormed : (e : Equate) → Among e (σ .rest .equates) → WellFormed e
-  pub distinct : areDistinct (equateNames σ) ≡ true
+  pub distinct : areDistinct (equatedNames σ) ≡ true
   pub noLabel : (e : Equate) → Among e (σ .rest .equates) → isLabel (nameOf e) (σ .labels) ≡ false
   pub neverBeyond : (e : Equate) → Among e (σ .rest .equates) → NeverBeyond base σ e

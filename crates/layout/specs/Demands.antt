@@ -12,9 +12,9 @@ use Rattle.numbers.specs.Results.{value}
 use Rattle.numbers.specs.Text.{same}
 use Rattle.numbers.specs.Numbers.{immOf, imm64Of}
 use Rattle.numbers.specs.Registers.{registerOf}
-use Rattle.encoder.specs.Run.{Leaves}
+use Rattle.encoder.specs.Run.{LoadsIn}
 use Rattle.layout.specs.declared.pseudo.Pseudo.the-variants.{Li, La}
-use Rattle.layout.specs.Bytes.{le}
+use Rattle.layout.specs.Bytes.{littleEndian}
 use Rattle.layout.specs.Pieces.{lines, linePieces}
 use Rattle.layout.specs.Limits.{baseLimit, textLimit, Lent, roomOf}
 use Rattle.layout.specs.Pseudos.{pseudoOperands, itemKind}
@@ -86,7 +86,7 @@ pub record LabelWordHolds (l : Layout) (w : LabelWord) : Type 0 where
   pub address : ℕ
   pub known : recordedAddress (l .labels) (w .name) ≡ some address
   pub small : address < 2 ^ 32
-  pub stands : take 4 (drop (w .at) (l .dataBytes)) ≡ le 4 address
+  pub stands : take 4 (drop (w .at) (l .dataBytes)) ≡ littleEndian 4 address
 
 -- ---- items
 
@@ -115,7 +115,8 @@ abbrev pub modulo32 : ℤ → ℕ
 modulo32 (pos n) = n % 2 ^ 32
 modulo32 (negsuc n) = 2 ^ 32 - suc (n % 2 ^ 32)
 
--- an item's words leave in the register that its first operand names what its second one says, "x0 excepted"
+-- an item's words leave in the register that its first operand names what its second one says, "x0 excepted": there too they run, "any other word
+-- fails the demand", and change no register
 pub record Loads (source : List ℕ) (ws : List ℕ) (says : List ℕ → Option ℤ) : Type 0 where
   pub first : List ℕ
   pub second : List ℕ
@@ -124,7 +125,7 @@ pub record Loads (source : List ℕ) (ws : List ℕ) (says : List ℕ → Option
   pub isRegister : registerOf first ≡ some register
   pub value : ℤ
   pub said : says second ≡ some value
-  pub leaves : 0 < register → Leaves ws register (modulo32 value)
+  pub loads : LoadsIn ws register (modulo32 value)
 
 pub record ItemHolds (base : ℕ) (l : Layout) (x : ItemLine) (above : List ItemAt) (i : ItemAt) (below : List ItemAt) : Type 0 where
   pub address : i .address ≡ base + x .offset

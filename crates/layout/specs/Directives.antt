@@ -23,7 +23,7 @@ use Rattle.layout.specs.declared.directives.Directive.{Directive}
 use Rattle.layout.specs.declared.directives.Directive.the-variants as directive
 use Rattle.layout.specs.declared.directives.Reservation.{Reservation}
 use Rattle.layout.specs.declared.directives.Reservation.the-variants.{Zeros, Aligns}
-use Rattle.layout.specs.Bytes.{le, isDigit, isLetter}
+use Rattle.layout.specs.Bytes.{littleEndian, isDigit, isLetter}
 
 -- ---- the table
 
@@ -138,7 +138,7 @@ unread Dword s = refused 6
 
 abbrev pub numberOrName : Width → Option ℤ → List ℕ → Result ℕ Write
 numberOrName w none s = unread w s
-numberOrName w (some z) s = cond (rangeAt w z) (value (bytes (le (widthBytes w) (bits 64 z)))) (refused 7)
+numberOrName w (some z) s = cond (rangeAt w z) (value (bytes (littleEndian (widthBytes w) (bits 64 z)))) (refused 7)
 
 -- one definition over the width for byte, half, word and dword
 abbrev pub operandWrite : Width → List ℕ → Result ℕ Write

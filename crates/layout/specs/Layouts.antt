@@ -21,7 +21,7 @@ use Rattle.layout.specs.Stage.{lineStage}
 use Rattle.layout.specs.Addresses.{sectionStart, LabelAt, placed, ordered, labelAddress, fill}
 use Rattle.layout.specs.Rounds.{Found, Known, pendingEquate, constant, Turns, rounds}
 use Rattle.layout.specs.Expansions.{expansion}
-use Rattle.layout.specs.Records.{Field, labelRecord, labelFields, equateRecord, equateFields, itemRecord, itemFields, tableOf}
+use Rattle.layout.specs.Records.{RecordField, labelRecord, labelFields, equateRecord, equateFields, itemRecord, itemFields, tableOf}
 
 -- an equate with its value and round, and an item with its first word's index
 pub record EquateAt : Type 0 where
@@ -132,7 +132,7 @@ layoutOf t base k =
     andThen (checkBytes 0 t) (λ _.
     andThen (lineStage (roomOf k) 0 (linePieces 0 (lines t)) start) (afterLines base))))
 
--- ---- the call's whole answer: "refused or accepted, the answer and the content of each output"
+-- ---- the call's whole answer: "refused ones included, the answer and the content of each output"
 
 -- what is counted
 pub record Counts : Type 0 where
@@ -174,13 +174,13 @@ countsOf l =
     }
 
 -- a record's fields
-abbrev pub labelRow : LabelAt → List Field
+abbrev pub labelRow : LabelAt → List RecordField
 labelRow x = labelFields (labelRecord (x .name) (x .address) (x .line))
 
-abbrev pub equateRow : EquateAt → List Field
+abbrev pub equateRow : EquateAt → List RecordField
 equateRow x = equateFields (equateRecord (x .name) (x .line) (x .value) (x .round))
 
-abbrev pub itemRow : ItemAt → List Field
+abbrev pub itemRow : ItemAt → List RecordField
 itemRow x = itemFields (itemRecord (x .address) (x .line) (x .kind) (x .first) (x .source))
 
 -- "Output after the used part is zero"

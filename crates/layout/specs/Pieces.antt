@@ -5,6 +5,7 @@ use mathlib.Core.Bool.{Bool, cond}
 use lib.Dec.{ltb, eqb}
 use lib.ListN.{length, drop}
 use Rattle.numbers.specs.Text.{leadingSpaces, trimmed, indexOf, before, uncommented}
+use Rattle.numbers.specs.Operands.{consFirst}
 
 -- a piece of the text: where it starts, and its bytes
 pub record Piece : Type 0 where
@@ -35,15 +36,10 @@ pieceAfter b p = fromByte (suc (indexOf b (p .bytes))) p
 abbrev pub isEmpty : Piece → Bool
 isEmpty p = eqb (length (p .bytes)) 0
 
--- b before the first line
-abbrev pub consLine : ℕ → List (List ℕ) → List (List ℕ)
-consLine b [] = (b ∷ []) ∷ []
-consLine b (l ∷ ls) = (b ∷ l) ∷ ls
-
 -- "Lines end at LF"; a text that ends with LF has no line after it
 unfoldable pub lines : List ℕ → List (List ℕ)
 lines [] = []
-lines (b ∷ bs) = cond (eqb b 10) ([] ∷ lines bs) (consLine b (lines bs))
+lines (b ∷ bs) = cond (eqb b 10) ([] ∷ lines bs) (consFirst b (lines bs))
 
 -- the lines as pieces, the first of which starts at a place
 unfoldable pub linePieces : ℕ → List (List ℕ) → List Piece

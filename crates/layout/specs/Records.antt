@@ -8,34 +8,34 @@ use Rattle.layout.specs.declared.records.LabelRecord.{LabelRecord}
 use Rattle.layout.specs.declared.records.EquateRecord.{EquateRecord}
 use Rattle.layout.specs.declared.records.ItemRecord.{ItemRecord}
 use Rattle.layout.specs.Limits.{labelSize, equateSize, itemSize}
-use Rattle.layout.specs.Bytes.{le, padded, together}
+use Rattle.layout.specs.Bytes.{littleEndian, padded, together}
 use Rattle.layout.specs.Pieces.{Piece}
 
 -- "Little-endian, one fixed size, no header, fields of 4 bytes unless said"
-pub record Field : Type 0 where
+pub record RecordField : Type 0 where
   pub width : ℕ
   pub number : ℕ
 
-abbrev pub four : ℕ → Field
+abbrev pub four : ℕ → RecordField
 four v = record { width = 4; number = v }
 
-abbrev pub eight : ℕ → Field
+abbrev pub eight : ℕ → RecordField
 eight v = record { width = 8; number = v }
 
-unfoldable pub fieldBytes : List Field → List ℕ
+unfoldable pub fieldBytes : List RecordField → List ℕ
 fieldBytes [] = []
-fieldBytes (f ∷ fs) = le (f .width) (f .number) ++ fieldBytes fs
+fieldBytes (f ∷ fs) = littleEndian (f .width) (f .number) ++ fieldBytes fs
 
 -- "Label, 16 bytes: name start in the text, name length, address, line"
-abbrev pub labelFields : LabelRecord → List Field
+abbrev pub labelFields : LabelRecord → List RecordField
 labelFields r = four (r .start) ∷ four (r .len) ∷ four (r .address) ∷ four (r .line) ∷ []
 
 -- "Equate, 24 bytes, in text order: name start, name length, line, value (8 bytes), round"
-abbrev pub equateFields : EquateRecord → List Field
+abbrev pub equateFields : EquateRecord → List RecordField
 equateFields r = four (r .start) ∷ four (r .len) ∷ four (r .line) ∷ eight (bits 64 (r .value)) ∷ four (r .round) ∷ []
 
 -- "Item, 24 bytes, in text order: address, line, kind (..), first word's index, source start, source length"
-abbrev pub itemFields : ItemRecord → List Field
+abbrev pub itemFields : ItemRecord → List RecordField
 itemFields r = four (r .address) ∷ four (r .line) ∷ four (r .kind) ∷ four (r .first) ∷ four (r .start) ∷ four (r .len) ∷ []
 
 -- a record of a name or a source, by where it starts and its length
@@ -50,23 +50,23 @@ itemRecord address line kind first source =
     record { address = address; line = line; kind = kind; first = first; start = source .at; len = length (source .bytes) }
 
 -- records one after the other in n bytes, and zeros after them: f gives a record's fields
-abbrev pub tableOf : {A : Type 0} → ℕ → (A → List Field) → List A → List ℕ
+abbrev pub tableOf : {A : Type 0} → ℕ → (A → List RecordField) → List A → List ℕ
 tableOf n f xs = padded n (together (map (λ x. fieldBytes (f x)) xs))
 
 -- ---- read back
 
 -- the number that bytes stand for, the low byte first
-unfoldable pub leValue : List ℕ → ℕ
-leValue [] = 0
-leValue (b ∷ bs) = b + 256 * leValue bs
+unfoldable pub littleEndianValue : List ℕ → ℕ
+littleEndianValue [] = 0
+littleEndianValue (b ∷ bs) = b + 256 * littleEndianValue bs
 
 -- the number in the four bytes at a place
 abbrev pub fourAt : List ℕ → ℕ → ℕ
-fourAt b at = leValue (take 4 (drop at b))
+fourAt b at = littleEndianValue (take 4 (drop at b))
 
 -- the number in the eight bytes at a place
 abbrev pub eightAt : List ℕ → ℕ → ℕ
-eightAt b at = leValue (take 8 (drop at b))
+eightAt b at = littleEndianValue (take 8 (drop at b))
 
 -- the kth record of a table
 abbrev pub labelRecordAt : List ℕ → ℕ → LabelRecord

@@ -150,18 +150,18 @@ ownLine k line (reserves x p) σ = mapped (withStored σ) (dataLine k line (mapp
 ownLine k line (reservesBss x p) σ = mapped (withBss σ) (bssLine (reservation x (immOf (p .bytes))) (σ .bss))
 
 -- what a statement does
-unfoldable pub says : Room → ℕ → Statement → Rest → Result ℕ Rest
-says k line nothing σ = value σ
-says k line (enters s) σ = value (withOwn σ (inSection s (σ .own)))
-says k line (equate name expr) σ =
+unfoldable pub statementStep : Room → ℕ → Statement → Rest → Result ℕ Rest
+statementStep k line nothing σ = value σ
+statementStep k line (enters s) σ = value (withOwn σ (inSection s (σ .own)))
+statementStep k line (equate name expr) σ =
     mapped (withEquates σ) (addEquate k (record { name = name; expr = expr; place = here (σ .own); line = line }) (σ .equates))
-says k line (own s) σ = mapped (withOwn σ) (ownLine k line s (σ .own))
+statementStep k line (own s) σ = mapped (withOwn σ) (ownLine k line s (σ .own))
 
 -- "a label's 45 first", then what the line says
 unfoldable pub stepParsed : Room → ℕ → Line → State → Result ℕ State
 stepParsed k line l σ =
     andThen (labelStep k (here (σ .rest .own)) line (l .label) (σ .labels)) (λ ls.
-    mapped (withRest ls) (andThen (l .says) (λ s. says k line s (σ .rest))))
+    mapped (withRest ls) (andThen (l .says) (λ s. statementStep k line s (σ .rest))))
 
 -- a line as it stands in the text, read in the section that the layout is in
 abbrev pub stepLine : Room → ℕ → Piece → State → Result ℕ State

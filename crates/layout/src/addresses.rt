@@ -14,7 +14,7 @@ ghost use Rattle.layout.specs.State.{State};
 ghost use Rattle.layout.specs.Stage.{isLabel};
 ghost use Rattle.layout.specs.Addresses.{addressAt, labelAddress};
 ghost use Rattle.layout.specs.code.Tables.{LabelsIndexed};
-ghost use Rattle.layout.specs.code.Placed.{StartsAt, PlaceCoded, Unplaced, Places, WherePlaced, addressOf};
+ghost use Rattle.layout.specs.code.Placed.{StartsAt, PlaceCoded, Unplaced, Places, WherePlaced, addressFound};
 
 // Where the sections start.
 pub struct Starts {
@@ -84,7 +84,7 @@ pub fn label_address(
 ) -> Address
     requires { ⌜ LabelsIndexed (now text) (now labels) (now index) count ⌝ }
     ensures { λ r. ⌜ WherePlaced text labels index count
-        (λ base σ. addressOf r ≡ labelAddress base σ (now (name .entry))) ⌝ }
+        (λ base σ. addressFound r ≡ labelAddress base σ (now (name .entry))) ⌝ }
 {
     let Lookup::At(k) = find_label(text, labels, index, count, name) else {
         return Address::Nothing;
@@ -103,7 +103,7 @@ pub fn is_label(text: &[u8], labels: &[u8], index: &[u16], count: usize, name: &
     }
 }
 
-// The same by an operand, whose white-space runs are made one space. The contract alone names the index.
+// What `label_address` answers of an operand's name, its white-space runs made one space. The contract alone names the index.
 pub fn spaced_address(
     text: &[u8],
     labels: &[u8],
@@ -113,7 +113,7 @@ pub fn spaced_address(
 ) -> Address
     requires { ⌜ LabelsIndexed (now text) (now labels) (now index) count ⌝ }
     ensures { λ r. ⌜ WherePlaced text labels index count
-        (λ base σ. addressOf r ≡ labelAddress base σ (oneSpaced (now (operand .entry)))) ⌝ }
+        (λ base σ. addressFound r ≡ labelAddress base σ (oneSpaced (now (operand .entry)))) ⌝ }
 {
     let Lookup::At(k) = find_spaced(text, labels, count, operand) else {
         return Address::Nothing;

@@ -1,15 +1,14 @@
 // The whole call: document 01's stages in their order, into the buffers that the caller lends.
 use crate::addresses::Starts;
-use crate::emit::EmitStep;
 use crate::emit::emit_items;
 use crate::limits::BASE_LIMIT;
 use crate::limits::Room;
 use crate::limits::TEXT_LIMIT;
 use crate::order::order_labels;
-use crate::rounds::Resolved;
 use crate::stage::Stage;
 use crate::stage::line_stage;
 use crate::state::Counters;
+use crate::state::Total;
 use crate::symbols::resolve_symbols;
 use crate::writers::put_zeros;
 ghost use mathlib.Core.Path.{_≡_};
@@ -18,8 +17,9 @@ ghost use lib.ListN.{length};
 ghost use Rattle.layout.specs.Limits.{baseLimit, textLimit};
 ghost use Rattle.layout.specs.Layouts.{checkBytes, layoutOf};
 ghost use Rattle.layout.specs.Calls.{Assembled};
-ghost use Rattle.layout.specs.code.Checks.{anyHigh, BytesAgree};
-ghost use Rattle.layout.specs.code.Calls.{LinesReady, LinesGive, ResolvedReady, ResolvedGive, LaidAgrees, Clear, Clears, linesOf, buffersNow, lengths, answerIn, refusedAnswer};
+ghost use Rattle.layout.specs.code.Steps.{Agrees};
+ghost use Rattle.layout.specs.code.Checks.{anyHigh, bytesOf};
+ghost use Rattle.layout.specs.code.Calls.{LinesReady, LinesGive, ResolvedReady, ResolvedGive, LaidLeft, laidOf, Clear, Clears, linesOf, buffersNow, lengths, answerIn, refusedAnswer};
 
 // What is counted of a layout; after a refusal every count is 0.
 pub struct Counts {
@@ -60,7 +60,7 @@ impl Counts {
 }
 
 // Is every byte at most 127? Else the line of the first that is not.
-pub enum Bytes {
+enum Bytes {
     Fine,
     High(u32),
 }
@@ -81,7 +81,7 @@ fn any_high(text: &[u8]) -> bool
 // The line of the first byte above 127.
 fn high_line(text: &[u8]) -> Bytes
     requires { ⌜ length (now text) ≤ textLimit ⌝ }
-    ensures { λ r. ⌜ BytesAgree r (checkBytes 0 (now (text .entry))) ⌝ }
+    ensures { λ r. ⌜ bytesOf r ≡ checkBytes 0 (now (text .entry)) ⌝ }
 {
     let mut line: u32 = 0;
     let mut i = 0;
@@ -98,9 +98,9 @@ fn high_line(text: &[u8]) -> Bytes
 }
 
 // 1, at the line of the first byte above 127.
-pub fn check_bytes(text: &[u8]) -> Bytes
+fn check_bytes(text: &[u8]) -> Bytes
     requires { ⌜ length (now text) ≤ textLimit ⌝ }
-    ensures { λ r. ⌜ BytesAgree r (checkBytes 0 (now (text .entry))) ⌝ }
+    ensures { λ r. ⌜ bytesOf r ≡ checkBytes 0 (now (text .entry)) ⌝ }
 {
     if any_high(text) {
         return high_line(text);
@@ -143,7 +143,7 @@ fn emit_and_order(
         counted.items,
         words,
     ) {
-        EmitStep::Through(count) => {
+        Total::Through(count) => {
             // the label words are filled: their table has room for every label's record
             order_labels(text, labels, label_words, st.labels);
             Laid::Through(Counts {
@@ -157,7 +157,7 @@ fn emit_and_order(
                 evaluations,
             })
         }
-        EmitStep::Refused(n, line) => Laid::Refused(n, line),
+        Total::Refused(n, line) => Laid::Refused(n, line),
     }
 }
 
@@ -180,7 +180,7 @@ fn after_lines(
 {
     // the index over equates, 1,024 buckets and an entry each, and how far each one's sum has come, two numbers each
     let mut equate_index = [0u16; 1280];
-    let mut waits = [0u64; 512];
+    let mut partials = [0u64; 512];
     match resolve_symbols(
         text,
         base,
@@ -190,11 +190,11 @@ fn after_lines(
         equates,
         &mut equate_index,
         exprs,
-        &mut waits,
+        &mut partials,
         data_bytes,
         label_words,
     ) {
-        Resolved::Through(evaluations) => emit_and_order(
+        Total::Through(evaluations) => emit_and_order(
             text,
             base,
             st,
@@ -207,7 +207,7 @@ fn after_lines(
             label_words,
             words,
         ),
-        Resolved::Refused(n, line) => Laid::Refused(n, line),
+        Total::Refused(n, line) => Laid::Refused(n, line),
     }
 }
 
@@ -223,7 +223,7 @@ fn lay_lines(
 ) -> Laid
     requires { ⌜ (base ≤ baseLimit) × (length (now text) ≤ textLimit)
         × Clear words × Clear «data_bytes» × Clear labels × Clear equates × Clear items ⌝ }
-    ensures { λ r. ⌜ LaidAgrees (buffersNow (words .exit) («data_bytes» .exit) (labels .exit) (equates .exit) (items .exit)) r
+    ensures { λ r. ⌜ Agrees (LaidLeft (buffersNow (words .exit) («data_bytes» .exit) (labels .exit) (equates .exit) (items .exit))) (laidOf r)
         (linesOf (now (text .entry)) base (lengths (buffersNow (words .entry) («data_bytes» .entry) (labels .entry) (equates .entry) (items .entry)))) ⌝ }
 {
     // the stage's own tables, as large as their limits ask: the index over labels, expressions, label words
@@ -276,7 +276,7 @@ fn lay_out(
     items: &mut [u8],
 ) -> Laid
     requires { ⌜ Clear words × Clear «data_bytes» × Clear labels × Clear equates × Clear items ⌝ }
-    ensures { λ r. ⌜ LaidAgrees (buffersNow (words .exit) («data_bytes» .exit) (labels .exit) (equates .exit) (items .exit)) r
+    ensures { λ r. ⌜ Agrees (LaidLeft (buffersNow (words .exit) («data_bytes» .exit) (labels .exit) (equates .exit) (items .exit))) (laidOf r)
         (layoutOf (now (text .entry)) base (lengths (buffersNow (words .entry) («data_bytes» .entry) (labels .entry) (equates .entry) (items .entry)))) ⌝ }
 {
     if BASE_LIMIT < base {

@@ -8,19 +8,19 @@ use crate::directives::place_after;
 use crate::directives::reservation_of;
 use crate::limits::LABEL_WORD_LIMIT;
 use crate::limits::Room;
+use crate::little_endian::put_number;
 use crate::records::LabelWordRecord;
 use crate::records::put_label_word;
 use crate::state::Count;
 use crate::state::DataCount;
 use crate::state::DataStep;
 use crate::writers::put_bytes;
-use crate::writers::put_number;
 use crate::writers::put_zeros;
-use encoder::split::signed_of;
 use numbers::imm::parse_imm;
 use numbers::imm::parse_imm64;
 use numbers::ints::Imm64;
 use numbers::ints::bits_of_i64;
+use numbers::ints::i32_of_bits;
 use numbers::ints::in_byte;
 use numbers::ints::in_half;
 use numbers::ints::widened;
@@ -53,7 +53,7 @@ ghost use Rattle.layout.specs.Directives.{numberOrName, operandWrite, st
 ghost use Rattle.layout.specs.Stage.{writeSize, addLabelWord, dataWrite, dataLine};
 ghost use Rattle.layout.specs.code.Spans.{SpanWithin, LineIn};
 ghost use Rattle.layout.specs.code.Rows.{SourceFits, reservedOf, ReservedSmall};
-ghost use Rattle.layout.specs.code.Writes.{writeAt, WriteFits, readingAt, ReadingFits, writtenBytes, Sized};
+ghost use Rattle.layout.specs.code.Writes.{writeAt, WriteFits, readingAt, ReadingFits, writtenBytes, TextSized};
 ghost use Rattle.layout.specs.code.Writes.{sourceReadings, nextCode, NextIs};
 ghost use Rattle.layout.specs.code.Lent.{LabelWordsReady, LabelWordsSteps, DataReady, DataSteps};
 
@@ -100,9 +100,9 @@ impl Width {
         ensures { λ r. ⌜ ((s : List ℕ) → imm64Of s ≡ some (pos v) → readAt self s ≡ some r) ⌝ }
     {
         match self {
-            Width::Byte => signed_of(v) as i64,
-            Width::Half => signed_of(v) as i64,
-            Width::Word => signed_of(v) as i64,
+            Width::Byte => i32_of_bits(v) as i64,
+            Width::Half => i32_of_bits(v) as i64,
+            Width::Word => i32_of_bits(v) as i64,
             Width::Dword => v as i64,
         }
     }
@@ -229,7 +229,7 @@ impl Write {
 
     // Its n bytes, at the start of the part of the data that is lent.
     fn put(self, text: &[u8], dst: &mut [u8], n: usize)
-        requires { ⌜ WriteFits (now text) self × Sized self n × (n ≤ length (now dst)) ⌝ }
+        requires { ⌜ WriteFits (now text) self × TextSized self n × (n ≤ length (now dst)) ⌝ }
         ensures { λ _. ⌜ now (dst .exit) ≡ writtenBytes (now (text .entry)) n self ++ drop n (now (dst .entry)) ⌝ }
     {
         match self {

@@ -6,7 +6,7 @@ use numbers::table::SLOTS;
 use numbers::table::prefix_in;
 use numbers::text::first_is;
 ghost use mathlib.Core.Path.{_≡_};
-ghost use Prim.Native.Nat.{min, _≤_};
+ghost use Prim.Native.Nat.{_≤_};
 ghost use lib.ListN.{length};
 ghost use Rattle.numbers.specs.Numbers.{immOf};
 ghost use Rattle.layout.specs.Directives.{directives, rowIn, aligned, placeAfter, reservation};
@@ -103,7 +103,8 @@ pub const NAMES: Names = *b"\
 
 // What a number in a row says.
 fn directive_numbered(kind: u8) -> Directive
-    ensures { λ r. ⌜ directiveNumber r ≡ min kind 11 ⌝ }
+    requires { ⌜ kind ≤ 11 ⌝ }
+    ensures { λ r. ⌜ directiveNumber r ≡ kind ⌝ }
 {
     match kind {
         0 => Directive::Symbol,

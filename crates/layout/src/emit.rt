@@ -10,6 +10,7 @@ use crate::records::ItemRecord;
 use crate::records::get_item;
 use crate::records::put_item;
 use crate::state::Count;
+use crate::state::Total;
 use encoder::Encoded;
 use encoder::encode;
 use numbers::text::Span;
@@ -22,24 +23,18 @@ ghost use lib.ListN.{length};
 ghost use Rattle.numbers.specs.Results.{value, andThen};
 ghost use Rattle.numbers.specs.code.Spans.{spanned};
 ghost use Rattle.encoder.specs.Encoding.{encoding};
-ghost use Rattle.encoder.specs.code.Meanings.{answerOf};
+ghost use Rattle.encoder.specs.code.Meanings.{encodedResult};
 ghost use Rattle.layout.specs.declared.pseudo.Pseudo as code;
 ghost use Rattle.layout.specs.Pseudos.{itemKind, pseudoWords, reservedWords};
 ghost use Rattle.layout.specs.Layouts.{encoded};
 ghost use Rattle.layout.specs.code.Steps.{Some};
 ghost use Rattle.layout.specs.code.Kinds.{kindItem, kindSource};
 ghost use Rattle.layout.specs.code.Names.{NamesReady, NamesKnown};
-ghost use Rattle.layout.specs.code.Expands.{longest, slotAt, slotsFrom, expandedOf, emissionIn, CountFits, Puts, sourceSpan, ItemFits};
+ghost use Rattle.layout.specs.code.Expands.{longest, slotAt, slotsFrom, expandedOf, emissionIn, CountFits, Puts, sourceSpan, ItemRecordFits};
 ghost use Rattle.layout.specs.code.Emits.{EmitReady, Emits};
 
-// Every item is emitted, in so many words; or a refusal's number and line.
-pub enum EmitStep {
-    Through(usize),
-    Refused(u8, u32),
-}
-
 fn slot_word(slot: Slot) -> Encoded
-    ensures { λ r. ⌜ answerOf r ≡ encoding (slot .inst) ⌝ }
+    ensures { λ r. ⌜ encodedResult r ≡ encoding (slot .inst) ⌝ }
 {
     let inst = slot.inst;
     encode(inst)
@@ -48,7 +43,7 @@ fn slot_word(slot: Slot) -> Encoded
 // The word of an expansion's kth instruction.
 fn word_at(e: Expansion, k: usize) -> Encoded
     requires { ⌜ k < longest ⌝ }
-    ensures { λ r. ⌜ answerOf r ≡ encoding (slotAt (e .slots) k) ⌝ }
+    ensures { λ r. ⌜ encodedResult r ≡ encoding (slotAt (e .slots) k) ⌝ }
 {
     slot_word(e.slots[k])
 }
@@ -160,7 +155,6 @@ fn emit_line(
             span_bytes(text, source),
             dst,
         ),
-        LineKind::Unsupported(_) => put_ordinary(dst),
     }
 }
 
@@ -177,7 +171,7 @@ fn emit_item(
     dst: &mut [u32],
 ) -> Count
     requires { ⌜ NamesReady text labels «label_index» «label_count» equates «equate_index» «equate_count»
-        × Some (ItemFits (now text) (length (now dst)) item) ⌝ }
+        × Some (ItemRecordFits (now text) (length (now dst)) item) ⌝ }
     ensures { λ r. ⌜ NamesKnown text labels «label_index» «label_count» equates «equate_index» «equate_count»
         (λ names. (x : Option code.Pseudo) → item .kind ≡ itemKind x
         → Puts dst r (emissionIn names x (spanned (now (text .entry)) (sourceSpan item)))) ⌝ }
@@ -200,6 +194,7 @@ fn emit_item(
 }
 
 // So many items in text order: each one's words behind those before it, and into its record its address and its first word's index.
+// The total is of the words.
 pub fn emit_items(
     text: &[u8],
     labels: &[u8],
@@ -212,7 +207,7 @@ pub fn emit_items(
     items: &mut [u8],
     count: usize,
     words: &mut [u32],
-) -> EmitStep
+) -> Total
     requires { ⌜ EmitReady text labels «label_index» «label_count» equates «equate_index» «equate_count» starts items count words ⌝ }
     ensures { λ r. ⌜ Emits text labels «label_index» «label_count» equates «equate_index» «equate_count» starts items count words r ⌝ }
 {
@@ -245,9 +240,9 @@ pub fn emit_items(
                 k += 1;
             }
             Count::Stop(n) => {
-                return EmitStep::Refused(n, item.line);
+                return Total::Refused(n, item.line);
             }
         }
     }
-    EmitStep::Through(at)
+    Total::Through(at)
 }

@@ -10,11 +10,11 @@ use crate::pseudo::Pseudo;
 use crate::state::Count;
 use encoder::instruction::Instruction;
 use encoder::split::lower_part;
-use encoder::split::signed_of;
 use encoder::split::upper_part;
 use numbers::imm::parse_imm_one_spaced;
 use numbers::ints::Imm;
 use numbers::ints::bits_of_i32;
+use numbers::ints::i32_of_bits;
 use numbers::ints::in_signed12;
 use numbers::ints::in_signed32;
 use numbers::operands::Operand;
@@ -47,7 +47,7 @@ ghost use Rattle.layout.specs.Expansions.{Expanded, oneOperand, twoOpera
 ghost use Rattle.layout.specs.Expansions.{pushes, pops, prints, randoms, printsStr, reads, readsByte};
 ghost use Rattle.layout.specs.code.Steps.{Some};
 ghost use Rattle.layout.specs.code.Tables.{LabelsIndexed};
-ghost use Rattle.layout.specs.code.Placed.{WherePlaced, addressOf};
+ghost use Rattle.layout.specs.code.Placed.{WherePlaced, addressFound};
 ghost use Rattle.layout.specs.code.Names.{valueOf, EquateTable, NamesReady, NamesKnown};
 ghost use Rattle.layout.specs.code.Expands.{spacedOperands, onlyThen, twoThen, loadThen, targetThen, immThen, longest, ecallsOf, withSlot, withSlots, expandedOf};
 ghost use Rattle.layout.specs.code.Expands.{WhereKnown, ExpandsAlone, ExpandsByLabels, ExpandsByEquates, expansionIn};
@@ -185,7 +185,7 @@ fn operand_address(
 ) -> Address
     requires { ⌜ LabelsIndexed (now text) (now labels) (now index) count ⌝ }
     ensures { λ r. ⌜ WherePlaced text labels index count
-        (λ base σ. addressOf r ≡ labelAddress base σ (oneSpaced (now (operand .entry)))) ⌝ }
+        (λ base σ. addressFound r ≡ labelAddress base σ (oneSpaced (now (operand .entry)))) ⌝ }
 {
     if word_len(operand) == operand.len() {
         return label_address(text, labels, index, count, operand);
@@ -332,8 +332,8 @@ fn load_pair(e: Expansion, k: usize, rd: Register, b: u32) -> Expansion
     requires { ⌜ k + 1 < longest ⌝ }
     ensures { λ r. ⌜ r ≡ withSlots e k (loadPair rd b) ⌝ }
 {
-    let upper = lui(e, k, rd, signed_of(upper_part(b)));
-    addi(upper, k + 1, rd, rd, signed_of(lower_part(b)))
+    let upper = lui(e, k, rd, i32_of_bits(upper_part(b)));
+    addi(upper, k + 1, rd, rd, i32_of_bits(lower_part(b)))
 }
 
 // The pair alone: what leaves b in rd.

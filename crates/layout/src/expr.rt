@@ -4,8 +4,10 @@ use crate::addresses::label_address;
 use crate::equates::Value;
 use crate::equates::constant;
 use crate::reader::token_of;
+use crate::tokens::Sign;
 use crate::tokens::Token;
 use crate::tokens::TokenAt;
+use crate::tokens::sign_of;
 use crate::tokens::skip_blanks;
 use numbers::ints::Checked;
 use numbers::ints::checked_add;
@@ -190,13 +192,10 @@ fn operator_at(s: &[u8], at: usize, one_space: bool) -> Joint
     if s.len() <= i {
         return Joint::End;
     }
-    if s[i] == b'+' {
-        return Joint::Operator(false, i + 1);
-    }
-    if s[i] == b'-' {
-        return Joint::Operator(true, i + 1);
-    }
-    Joint::Malformed
+    let Sign::Is(minus) = sign_of(s[i]) else {
+        return Joint::Malformed;
+    };
+    Joint::Operator(minus, i + 1)
 }
 
 // The same where a sum goes on: the first term is joined as if by a `+` before it.

@@ -2,6 +2,7 @@
 use crate::limits::Room;
 use crate::pseudo::LineKind;
 use crate::pseudo::Names;
+use crate::pseudo::TextLine;
 use crate::pseudo::kind_of;
 use crate::records::ItemRecord;
 use crate::records::put_item;
@@ -68,8 +69,7 @@ pub fn text_line(
         (textLine room line (pieceAt (now (text .entry)) source) (itemOf (spanned (now (text .entry)) source))) ⌝ }
 {
     match kind_of(names, text, source) {
-        LineKind::Instr(s) => add_item(text, items, room, st, line, LineKind::Instr(s)),
-        LineKind::Pseudo(p, s) => add_item(text, items, room, st, line, LineKind::Pseudo(p, s)),
-        LineKind::Unsupported(_) => ItemStep::Stop(21),
+        TextLine::Item(kind) => add_item(text, items, room, st, line, kind),
+        TextLine::Unsupported => ItemStep::Stop(21),
     }
 }

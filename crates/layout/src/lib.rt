@@ -14,6 +14,7 @@ mod items;
 mod labels;
 pub mod limits;
 mod line;
+mod little_endian;
 mod order;
 mod pieces;
 mod pseudo;

@@ -1,6 +1,6 @@
 // The limits of a layout, the bytes of a record, and how much may be laid out.
+use numbers::ints::least;
 ghost use mathlib.Core.Path.{_≡_};
-ghost use Prim.Native.Nat.{min};
 ghost use Rattle.layout.specs.Limits.{roomOf};
 
 pub const BASE_LIMIT: u32 = 0xFF000000;
@@ -39,15 +39,6 @@ pub struct Room {
     pub labels: usize,
     pub equates: usize,
     pub items: usize,
-}
-
-pub fn least(a: usize, b: usize) -> usize
-    ensures { λ r. ⌜ r ≡ min a b ⌝ }
-{
-    if a < b {
-        return a;
-    }
-    b
 }
 
 impl Room {

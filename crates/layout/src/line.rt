@@ -202,7 +202,8 @@ fn assignment(text: &[u8], section: Section, part: Span, from: usize) -> Stateme
     if first_is(bytes, b'.') {
         return other_in(section, whole);
     }
-    let sign = find_from(bytes, from, b'=');
+    // not by `find_from`: its loop here would push other locals out of their registers
+    let sign = from + find(&bytes[from..], b'=');
     if bytes.len() <= sign {
         return other_in(section, whole);
     }

@@ -13,10 +13,10 @@ use numbers::text::first_is;
 use numbers::text::span_bytes;
 use numbers::text::text_before;
 ghost use mathlib.Core.Path.{_≡_};
-ghost use Prim.Native.Nat.{min, _≤_};
+ghost use Prim.Native.Nat.{_≤_};
 ghost use Rattle.numbers.specs.code.Spans.{spanned};
 ghost use Rattle.layout.specs.Pseudos.{itemOf, pseudoOperands, liWords, pseudoWords, reservedWords, pseudoKind, itemKind};
-ghost use Rattle.layout.specs.code.Kinds.{PseudoNames, beginsAsPseudo, kindCode, kindNumber, kindItem, kindSource};
+ghost use Rattle.layout.specs.code.Kinds.{PseudoNames, beginsAsPseudo, textLineCode, kindItem, kindSource};
 
 // The nine pseudo-instructions, in the order of their item kinds 1 to 9.
 pub enum Pseudo {
@@ -31,16 +31,21 @@ pub enum Pseudo {
     Random,
 }
 
-// A text line's kind, and where its source stands.
+// An item's kind, and where its source stands.
 pub enum LineKind {
     Instr(Span),
     Pseudo(Pseudo, Span),
-    Unsupported(Span),
+}
+
+// What a line of the text section is: an item of a kind, or one of the four other pseudo-instructions.
+pub enum TextLine {
+    Item(LineKind),
+    Unsupported,
 }
 
 const COUNT: usize = 20;
 
-// The columns: what a row's name is (`kind_numbered`), and whether it may end the line.
+// The columns: the kind of what a row's name is, 0 for one of the four others, and whether it may end the line.
 const KIND: usize = 14;
 
 const BARE: usize = 15;
@@ -75,21 +80,21 @@ pub const NAMES: Names = *b"\
     \xff\xff\xff\xff\xff\x04\xff\xff\xff\xff\xff\xff\x09\xff\x06\xff\
     \xff\x00\x0a\x05\xff\xff\x08\xff\xff\xff\xff\xff\x02\xff\xff\xff";
 
-// What a number in a row says: an item's kind, or 0 for one of the four others.
-fn kind_numbered(kind: u8, source: Span) -> LineKind
-    ensures { λ r. ⌜ (kindNumber r ≡ min kind 9) × (kindSource r ≡ source) ⌝ }
+// The pseudo of a kind.
+fn pseudo_numbered(kind: u8) -> Pseudo
+    requires { ⌜ (1 ≤ kind) × (kind ≤ 9) ⌝ }
+    ensures { λ r. ⌜ pseudoKind r ≡ kind ⌝ }
 {
     match kind {
-        0 => LineKind::Unsupported(source),
-        1 => LineKind::Pseudo(Pseudo::Li, source),
-        2 => LineKind::Pseudo(Pseudo::La, source),
-        3 => LineKind::Pseudo(Pseudo::Push, source),
-        4 => LineKind::Pseudo(Pseudo::Pop, source),
-        5 => LineKind::Pseudo(Pseudo::Print, source),
-        6 => LineKind::Pseudo(Pseudo::PrintStr, source),
-        7 => LineKind::Pseudo(Pseudo::Read, source),
-        8 => LineKind::Pseudo(Pseudo::ReadByte, source),
-        _ => LineKind::Pseudo(Pseudo::Random, source),
+        1 => Pseudo::Li,
+        2 => Pseudo::La,
+        3 => Pseudo::Push,
+        4 => Pseudo::Pop,
+        5 => Pseudo::Print,
+        6 => Pseudo::PrintStr,
+        7 => Pseudo::Read,
+        8 => Pseudo::ReadByte,
+        _ => Pseudo::Random,
     }
 }
 
@@ -101,7 +106,7 @@ pub fn item_kind(kind: u32, source: Span) -> LineKind
     if kind == 0 {
         return LineKind::Instr(source);
     }
-    kind_numbered(kind as u8, source)
+    LineKind::Pseudo(pseudo_numbered(kind as u8), source)
 }
 
 // Does s begin as a pseudo's name may? Most instructions do not, and are told by this alone.
@@ -111,30 +116,34 @@ fn begins_as_pseudo(s: &[u8]) -> bool
     first_is(s, b'l') | (first_is(s, b'p') | first_is(s, b'r'))
 }
 
-// The kind by a line's first word: a name is followed by a space or, if it may, ends the line.
-fn listed_kind(names: &Names, text: &[u8], source: Span) -> LineKind
+// What a line is by its first word: a name is followed by a space or, if it may, ends the line.
+fn listed_kind(names: &Names, text: &[u8], source: Span) -> TextLine
     requires { ⌜ PseudoNames (now names) ⌝ }
-    ensures { λ r. ⌜ r ≡ kindCode (itemOf (spanned (now (text .entry)) source)) source ⌝ }
+    ensures { λ r. ⌜ r ≡ textLineCode (itemOf (spanned (now (text .entry)) source)) source ⌝ }
 {
     let s = span_bytes(text, source);
     let word = text_before(s, b' ');
     let row = word_in(names, COUNT, word);
     if COUNT <= row {
-        return LineKind::Instr(source);
+        return TextLine::Item(LineKind::Instr(source));
     }
     let at = row * ROW;
     if (s.len() <= word.len()) & (names[at + BARE] == 0) {
-        return LineKind::Instr(source);
+        return TextLine::Item(LineKind::Instr(source));
     }
-    kind_numbered(names[at + KIND], source)
+    let kind = names[at + KIND];
+    if kind == 0 {
+        return TextLine::Unsupported;
+    }
+    TextLine::Item(LineKind::Pseudo(pseudo_numbered(kind), source))
 }
 
-pub fn kind_of(names: &Names, text: &[u8], source: Span) -> LineKind
+pub fn kind_of(names: &Names, text: &[u8], source: Span) -> TextLine
     requires { ⌜ PseudoNames (now names) ⌝ }
-    ensures { λ r. ⌜ r ≡ kindCode (itemOf (spanned (now (text .entry)) source)) source ⌝ }
+    ensures { λ r. ⌜ r ≡ textLineCode (itemOf (spanned (now (text .entry)) source)) source ⌝ }
 {
     if !begins_as_pseudo(span_bytes(text, source)) {
-        return LineKind::Instr(source);
+        return TextLine::Item(LineKind::Instr(source));
     }
     listed_kind(names, text, source)
 }
@@ -200,7 +209,6 @@ impl LineKind {
         match self {
             LineKind::Instr(_) => 1,
             LineKind::Pseudo(p, source) => pseudo_words(p, span_bytes(text, source)),
-            LineKind::Unsupported(_) => 1,
         }
     }
 
@@ -211,7 +219,6 @@ impl LineKind {
         match self {
             LineKind::Instr(_) => 0,
             LineKind::Pseudo(p, _) => pseudo_kind(p),
-            LineKind::Unsupported(_) => 0,
         }
     }
 
@@ -221,7 +228,6 @@ impl LineKind {
         match self {
             LineKind::Instr(source) => source,
             LineKind::Pseudo(_, source) => source,
-            LineKind::Unsupported(source) => source,
         }
     }
 }

@@ -1,21 +1,19 @@
-// Records in lent bytes: one struct a kind, by value, with one put and one get. Fields stand with their low byte first.
+// Records in lent bytes: one struct a kind, by value, with one put and one get.
 use crate::limits::EQUATE_SIZE;
 use crate::limits::EXPR_SIZE;
 use crate::limits::ITEM_SIZE;
 use crate::limits::LABEL_SIZE;
 use crate::limits::LABEL_WORD_SIZE;
-use crate::writers::put_number;
-use crate::writers::put_u32;
-use numbers::ints::bits_of_i64;
-use numbers::ints::i64_of_bits;
+use crate::little_endian::get_i64;
+use crate::little_endian::get_u32;
+use crate::little_endian::put_i64;
+use crate::little_endian::put_u32;
 ghost use mathlib.Core.Path.{_≡_};
 ghost use Prim.Native.Nat.{_+_, _*_, _≤_};
-ghost use lib.ListN.{length, take, drop};
-ghost use Rattle.numbers.specs.Ints.{bits, signedOf};
-ghost use Rattle.layout.specs.Bytes.{le, put};
+ghost use lib.ListN.{length};
+ghost use Rattle.layout.specs.Bytes.{put};
 ghost use Rattle.layout.specs.Limits.{labelSize, equateSize, itemSize};
-ghost use Rattle.layout.specs.Records.{fieldBytes, labelFields, equateFields, itemFields};
-ghost use Rattle.layout.specs.Records.{leValue, eightAt, labelRecordAt, equateRecordAt, itemRecordAt};
+ghost use Rattle.layout.specs.Records.{fieldBytes, labelFields, equateFields, itemFields, labelRecordAt, equateRecordAt, itemRecordAt};
 ghost use Rattle.layout.specs.code.Tables.{flagOf, exprSize, labelWordSize, exprFields, labelWordFields};
 ghost use Rattle.layout.specs.code.Tables.{exprRecordAt, labelWordRecordAt};
 
@@ -62,33 +60,6 @@ pub struct LabelWordRecord {
     pub start: u32,
     pub len: u32,
     pub line: u32,
-}
-
-pub fn get_u32(buf: &[u8], at: usize) -> u32
-    requires { ⌜ at + 4 ≤ length (now buf) ⌝ }
-    ensures { λ r. ⌜ r ≡ leValue (take 4 (drop at (now (buf .entry)))) ⌝ }
-{
-    let first = buf[at] as u32;
-    let second = buf[at + 1] as u32;
-    let third = buf[at + 2] as u32;
-    let fourth = buf[at + 3] as u32;
-    first + 256 * (second + 256 * (third + 256 * fourth))
-}
-
-fn put_i64(buf: &mut [u8], at: usize, v: i64)
-    requires { ⌜ at + 8 ≤ length (now buf) ⌝ }
-    ensures { λ _. ⌜ now (buf .exit) ≡ put at (le 8 (bits 64 v)) (now (buf .entry)) ⌝ }
-{
-    put_number(&mut buf[at..], 8, bits_of_i64(v));
-}
-
-fn get_i64(buf: &[u8], at: usize) -> i64
-    requires { ⌜ at + 8 ≤ length (now buf) ⌝ }
-    ensures { λ r. ⌜ r ≡ signedOf 64 (eightAt (now (buf .entry)) at) ⌝ }
-{
-    let low = get_u32(buf, at) as u64;
-    let high = get_u32(buf, at + 4) as u64;
-    i64_of_bits(low + 4294967296 * high)
 }
 
 pub fn put_label(labels: &mut [u8], k: usize, r: LabelRecord)

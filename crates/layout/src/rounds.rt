@@ -12,6 +12,7 @@ use crate::records::EquateRecord;
 use crate::records::get_equate;
 use crate::records::get_expr;
 use crate::records::put_equate;
+use crate::state::Total;
 use numbers::ints::bits_of_i64;
 use numbers::ints::i64_of_bits;
 use numbers::text::Span;
@@ -33,12 +34,6 @@ ghost use Rattle.layout.specs.code.Resolves.{equateIn, TurnReady, TurnKn
 pub struct Evaluation {
     pub answer: Evaluated,
     pub evaluations: usize,
-}
-
-// Every equate is found, by so many evaluations; or a refusal's number and line.
-pub enum Resolved {
-    Through(usize),
-    Refused(u8, u32),
 }
 
 fn is_constant(text: &[u8], equates: &[u8], index: &[u16], count: usize, name: &[u8]) -> bool
@@ -95,7 +90,7 @@ pub fn turn(
     )
 }
 
-// The same for an equate that has waited: its sum goes on from where it had come to.
+// The same for an equate that has waited: its sum goes on from where it had come to. In its contract 2 stands for any round but the first.
 fn turn_again(
     text: &[u8],
     labels: &[u8],
@@ -137,7 +132,55 @@ fn turn_again(
     )
 }
 
-// The one function that evaluates: the count of evaluations comes out one higher. From the second round on a pending equate has waited.
+// The kth equate's turn in a round: from the second on a pending equate has waited.
+fn turn_in(
+    text: &[u8],
+    labels: &[u8],
+    label_index: &[u16],
+    label_count: usize,
+    starts: Starts,
+    equates: &[u8],
+    equate_index: &[u16],
+    equate_count: usize,
+    exprs: &[u8],
+    k: usize,
+    from: Partial,
+    round: u32,
+) -> Evaluated
+    requires { ⌜ AgainReady text labels «label_index» «label_count» starts equates «equate_index» «equate_count» exprs round k from × (k < «equate_count») ⌝ }
+    ensures { λ r. ⌜ AgainKnown text labels «label_index» «label_count» starts equates «equate_index» «equate_count» exprs round k from
+        (λ names. TurnGives names (equateIn names k) r) ⌝ }
+{
+    if round == 1 {
+        return turn(
+            text,
+            labels,
+            label_index,
+            label_count,
+            starts,
+            equates,
+            equate_index,
+            equate_count,
+            exprs,
+            k,
+        );
+    }
+    turn_again(
+        text,
+        labels,
+        label_index,
+        label_count,
+        starts,
+        equates,
+        equate_index,
+        equate_count,
+        exprs,
+        k,
+        from,
+    )
+}
+
+// The one function that evaluates: the count of evaluations comes out one higher.
 fn evaluate(
     text: &[u8],
     labels: &[u8],
@@ -157,25 +200,8 @@ fn evaluate(
     ensures { λ r. ⌜ AgainKnown text labels «label_index» «label_count» starts equates «equate_index» «equate_count» exprs round k from
         (λ names. EvaluationGives names (equateIn names k) evaluations r) ⌝ }
 {
-    if round == 1 {
-        return Evaluation {
-            answer: turn(
-                text,
-                labels,
-                label_index,
-                label_count,
-                starts,
-                equates,
-                equate_index,
-                equate_count,
-                exprs,
-                k,
-            ),
-            evaluations: evaluations + 1,
-        };
-    }
     Evaluation {
-        answer: turn_again(
+        answer: turn_in(
             text,
             labels,
             label_index,
@@ -187,6 +213,7 @@ fn evaluate(
             exprs,
             k,
             from,
+            round,
         ),
         evaluations: evaluations + 1,
     }
@@ -222,24 +249,24 @@ fn put_found(equates: &mut [u8], k: usize, value: i64, round: u32)
 }
 
 // How far the kth equate's sum has come, by its row of two numbers: the sum's bits, and the place.
-fn partial_at(waits: &[u64], k: usize) -> Partial
-    requires { ⌜ k * 2 + 2 ≤ length (now waits) ⌝ }
-    ensures { λ r. ⌜ r ≡ partialAt (now (waits .entry)) k ⌝ }
+fn partial_at(partials: &[u64], k: usize) -> Partial
+    requires { ⌜ k * 2 + 2 ≤ length (now partials) ⌝ }
+    ensures { λ r. ⌜ r ≡ partialAt (now (partials .entry)) k ⌝ }
 {
     let row = k * 2;
     Partial {
-        sum: i64_of_bits(waits[row]),
-        at: waits[row + 1] as usize,
+        sum: i64_of_bits(partials[row]),
+        at: partials[row + 1] as usize,
     }
 }
 
-fn put_partial(waits: &mut [u64], k: usize, from: Partial)
-    requires { ⌜ k * 2 + 2 ≤ length (now waits) ⌝ }
-    ensures { λ _. ⌜ now (waits .exit) ≡ putPartial (now (waits .entry)) k from ⌝ }
+fn put_partial(partials: &mut [u64], k: usize, from: Partial)
+    requires { ⌜ k * 2 + 2 ≤ length (now partials) ⌝ }
+    ensures { λ _. ⌜ now (partials .exit) ≡ putPartial (now (partials .entry)) k from ⌝ }
 {
     let row = k * 2;
-    waits[row] = bits_of_i64(from.sum);
-    waits[row + 1] = from.at as u64;
+    partials[row] = bits_of_i64(from.sum);
+    partials[row + 1] = from.at as u64;
 }
 
 // The line of the first of so many equates that is pending.
@@ -258,6 +285,7 @@ fn first_pending(equates: &[u8], count: usize) -> u32
     0
 }
 
+// Every round; the total is of the evaluations.
 pub fn resolve(
     text: &[u8],
     labels: &[u8],
@@ -268,10 +296,10 @@ pub fn resolve(
     equate_index: &[u16],
     count: usize,
     exprs: &[u8],
-    waits: &mut [u64],
-) -> Resolved
-    requires { ⌜ ResolveReady text labels «label_index» «label_count» starts equates «equate_index» count exprs waits ⌝ }
-    ensures { λ r. ⌜ Resolves text labels «label_index» «label_count» starts equates «equate_index» count exprs waits r ⌝ }
+    partials: &mut [u64],
+) -> Total
+    requires { ⌜ ResolveReady text labels «label_index» «label_count» starts equates «equate_index» count exprs partials ⌝ }
+    ensures { λ r. ⌜ Resolves text labels «label_index» «label_count» starts equates «equate_index» count exprs partials r ⌝ }
 {
     let mut evaluations = 0;
     let mut pending = count;
@@ -296,7 +324,7 @@ pub fn resolve(
                     count,
                     exprs,
                     k,
-                    partial_at(waits, k),
+                    partial_at(partials, k),
                     round,
                     evaluations,
                 );
@@ -308,7 +336,7 @@ pub fn resolve(
                         pending -= 1;
                     }
                     Evaluated::Waits(from) => {
-                        put_partial(waits, k, from);
+                        put_partial(partials, k, from);
                     }
                     Evaluated::Refused(n) => {
                         refused = true;
@@ -328,7 +356,7 @@ pub fn resolve(
         }
     }
     if refused {
-        return Resolved::Refused(number, line);
+        return Total::Refused(number, line);
     }
-    Resolved::Through(evaluations)
+    Total::Through(evaluations)
 }

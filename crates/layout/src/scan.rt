@@ -1,5 +1,5 @@
 // One scan of a line: where it ends, where its statement stands, and how far the first `:` or `=` in that is.
-use crate::limits::least;
+use numbers::ints::least;
 use numbers::text::Span;
 use numbers::text::find_far;
 use numbers::text::in_sixteen;

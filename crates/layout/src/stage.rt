@@ -28,7 +28,7 @@ ghost use Rattle.numbers.specs.Results.{andThen};
 ghost use Rattle.layout.specs.Limits.{textLimit};
 ghost use Rattle.layout.specs.Pieces.{lines, linePieces};
 ghost use Rattle.layout.specs.State.{start};
-ghost use Rattle.layout.specs.Stage.{ownLine, says, stepLine, lineStage};
+ghost use Rattle.layout.specs.Stage.{ownLine, statementStep, stepLine, lineStage};
 ghost use Rattle.layout.specs.code.Kinds.{PseudoNames};
 ghost use Rattle.layout.specs.code.Rows.{DirectiveNames};
 ghost use Rattle.layout.specs.code.Cuts.{cutLine, LineCut};
@@ -113,7 +113,7 @@ fn own_line(
 }
 
 // What a statement does.
-fn says(
+fn statement_step(
     pseudos: &pseudo::Names,
     text: &[u8],
     equates: &mut [u8],
@@ -129,7 +129,7 @@ fn says(
     requires { ⌜ RestReady text equates exprs items «data_bytes» «label_words» room st
         × LineIn (now text) line × StatementWithin (now text) statement × PseudoNames (now pseudos) ⌝ }
     ensures { λ r. ⌜ RestSteps text equates exprs items «data_bytes» «label_words» room st r
-        (λ σ. andThen (statementAt (now (text .entry)) statement) (λ s. says room line s σ)) ⌝ }
+        (λ σ. andThen (statementAt (now (text .entry)) statement) (λ s. statementStep room line s σ)) ⌝ }
 {
     let count = st.equates;
     let own = st.own;
@@ -205,7 +205,7 @@ fn step_line(
         line,
         label,
     ) {
-        Count::Now(count) => match says(
+        Count::Now(count) => match statement_step(
             pseudos,
             text,
             equates,

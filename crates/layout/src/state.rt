@@ -77,6 +77,12 @@ pub enum Step {
     Stop(u8),
 }
 
+// What a stage after the lines comes to: the total of what it counts (label words, evaluations, words), or a refusal's number and line.
+pub enum Total {
+    Through(usize),
+    Refused(u8, u32),
+}
+
 impl OwnCounters {
     // The same counts in another section.
     pub fn entered(self, section: Section) -> OwnCounters

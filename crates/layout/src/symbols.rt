@@ -2,14 +2,13 @@
 use crate::addresses::Starts;
 use crate::addresses::place_labels;
 use crate::equates::index_equates;
-use crate::fixups::Filled;
 use crate::fixups::fill_label_words;
-use crate::rounds::Resolved;
 use crate::rounds::resolve;
 use crate::state::Counters;
+use crate::state::Total;
 ghost use Rattle.layout.specs.code.Symbols.{SymbolsReady, SymbolsResolve};
 
-// Every label gets its address and every label word its label's; then the rounds find the equates' values.
+// Every label gets its address and every label word its label's; then the rounds find the equates' values. The total is of the evaluations.
 pub fn resolve_symbols(
     text: &[u8],
     base: u32,
@@ -19,12 +18,12 @@ pub fn resolve_symbols(
     equates: &mut [u8],
     equate_index: &mut [u16],
     exprs: &[u8],
-    waits: &mut [u64],
+    partials: &mut [u64],
     data_bytes: &mut [u8],
     label_words: &[u8],
-) -> Resolved
-    requires { ⌜ SymbolsReady text base st labels «label_index» equates «equate_index» exprs waits «data_bytes» «label_words» ⌝ }
-    ensures { λ r. ⌜ SymbolsResolve text base st labels «label_index» equates «equate_index» exprs waits «data_bytes» «label_words» r ⌝ }
+) -> Total
+    requires { ⌜ SymbolsReady text base st labels «label_index» equates «equate_index» exprs partials «data_bytes» «label_words» ⌝ }
+    ensures { λ r. ⌜ SymbolsResolve text base st labels «label_index» equates «equate_index» exprs partials «data_bytes» «label_words» r ⌝ }
 {
     let rest = st.rest;
     let own = rest.own;
@@ -42,7 +41,7 @@ pub fn resolve_symbols(
         stored.label_words,
         data_bytes,
     ) {
-        Filled::Through => {
+        Total::Through(_) => {
             index_equates(text, equates, count, equate_index);
             resolve(
                 text,
@@ -54,9 +53,9 @@ pub fn resolve_symbols(
                 equate_index,
                 count,
                 exprs,
-                waits,
+                partials,
             )
         }
-        Filled::Refused(n, line) => Resolved::Refused(n, line),
+        Total::Refused(n, line) => Total::Refused(n, line),
     }
 }

@@ -4,13 +4,14 @@ use numbers::ints::Imm64;
 use numbers::text::Span;
 use numbers::text::is_space;
 ghost use mathlib.Core.Path.{_≡_};
-ghost use Prim.Native.Nat.{_+_};
-ghost use lib.ListN.{drop};
+ghost use Prim.Native.Nat.{_+_, _<_};
+ghost use lib.ListN.{length, drop, getD};
 ghost use Rattle.numbers.specs.Text.{leading};
 ghost use Rattle.numbers.specs.Numbers.{numberOf};
+ghost use Rattle.layout.specs.declared.tokens.Sign.the-variants as sign;
 ghost use Rattle.layout.specs.Bytes.{isDigit};
 ghost use Rattle.layout.specs.Expressions.{isBlank, isNameByte, isNumberByte};
-ghost use Rattle.layout.specs.code.Tokens.{numeral, blankIn, TokenHere, TokenFrom};
+ghost use Rattle.layout.specs.code.Tokens.{numeral, signOf, blankIn, TokenHere, TokenFrom};
 
 pub enum Token {
     Plus,
@@ -25,6 +26,12 @@ pub enum Token {
 pub enum TokenAt {
     At(Token, usize),
     End,
+}
+
+// What a byte is as a sign: whether it is a minus, or none.
+pub enum Sign {
+    Is(bool),
+    Nothing,
 }
 
 fn is_blank(b: u8) -> bool
@@ -59,7 +66,7 @@ fn is_number_byte(b: u8) -> bool
         | (b == b'X')
 }
 
-// The same, where each run of white space may be read as one space: then bytes 11 and 12 are blanks too.
+// What `is_blank` answers, where each run of white space may be read as one space: then bytes 11 and 12 are blanks too.
 fn is_blank_in(b: u8, one_space: bool) -> bool
     ensures { λ r. ⌜ r ≡ blankIn «one_space» b ⌝ }
 {
@@ -121,20 +128,23 @@ fn number_token(run: &[u8]) -> Token
     }
 }
 
-// The token at a place where no blank stands.
-fn token_here(s: &[u8], at: usize) -> TokenAt
+// The one place where `+` and `-` are told: signs before a term, and operators between terms.
+pub fn sign_of(b: u8) -> Sign
+    ensures { λ r. ⌜ r ≡ signOf b ⌝ }
+{
+    match b {
+        b'+' => Sign::Is(false),
+        b'-' => Sign::Is(true),
+        _ => Sign::Nothing,
+    }
+}
+
+// The token at a place where neither a blank nor a sign stands.
+fn operand_here(s: &[u8], at: usize) -> TokenAt
+    requires { ⌜ (at < length (now s)) × (signOf (getD (now s) at 0) ≡ sign.Nothing) ⌝ }
     ensures { λ r. ⌜ TokenHere (now (s .entry)) at r ⌝ }
 {
-    if s.len() <= at {
-        return TokenAt::End;
-    }
     let b = s[at];
-    if b == b'+' {
-        return TokenAt::At(Token::Plus, at + 1);
-    }
-    if b == b'-' {
-        return TokenAt::At(Token::Minus, at + 1);
-    }
     if is_digit(b) {
         let end = number_end(s, at);
         return TokenAt::At(number_token(&s[at..end]), end);
@@ -148,6 +158,22 @@ fn token_here(s: &[u8], at: usize) -> TokenAt
         return TokenAt::At(Token::Dot, end);
     }
     TokenAt::At(Token::Name(Span { start: at, len }), end)
+}
+
+// The token at a place where no blank stands.
+fn token_here(s: &[u8], at: usize) -> TokenAt
+    ensures { λ r. ⌜ TokenHere (now (s .entry)) at r ⌝ }
+{
+    if s.len() <= at {
+        return TokenAt::End;
+    }
+    let Sign::Is(minus) = sign_of(s[at]) else {
+        return operand_here(s, at);
+    };
+    if minus {
+        return TokenAt::At(Token::Minus, at + 1);
+    }
+    TokenAt::At(Token::Plus, at + 1)
 }
 
 // The next token from a place on. The expression of an `.equ` that a blank parts from its name is read with one space for each run of

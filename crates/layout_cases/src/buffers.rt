@@ -1,6 +1,6 @@
 // What a buffer holds after the call.
 use layout::limits::WORD_LIMIT;
-use layout::limits::least;
+use numbers::ints::least;
 use numbers::text::same_bytes;
 use replay::field::decode;
 

@@ -19,7 +19,7 @@ use layout::assembler::assemble;
 use layout::limits::EQUATE_SIZE;
 use layout::limits::ITEM_SIZE;
 use layout::limits::LABEL_SIZE;
-use layout::limits::least;
+use numbers::ints::least;
 use replay::field::decode;
 
 // Number, line and every count.

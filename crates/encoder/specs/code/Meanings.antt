@@ -5,7 +5,7 @@ use Rattle.encoder.specs.declared.Encoded.{Encoded}
 use Rattle.encoder.specs.declared.Encoded.the-variants.{Word, BadRegister, BadField}
 
 -- "both from the encoder alone, line 0": the encoder sees no lines
-abbrev pub answerOf : Encoded → Result ℕ ℕ
-answerOf (Word w) = value w
-answerOf BadRegister = refused 22
-answerOf BadField = refused 23
+abbrev pub encodedResult : Encoded → Result ℕ ℕ
+encodedResult (Word w) = value w
+encodedResult BadRegister = refused 22
+encodedResult BadField = refused 23

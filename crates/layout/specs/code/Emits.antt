@@ -4,19 +4,19 @@ use Prim.Native.Nat.{ℕ, _≤_}
 use mathlib.Core.Path.{_≡_}
 use mathlib.Core.List.{List, []}
 use lib.ListN.{length, replicate}
-use Rattle.numbers.specs.Results.{Result, value, refused}
+use Rattle.numbers.specs.Results.{Result}
 use Rattle.layout.specs.declared.addresses.Starts.{Starts}
 use Rattle.layout.specs.declared.limits.Room.{Room}
-use Rattle.layout.specs.declared.emit.EmitStep as code
-use Rattle.layout.specs.declared.emit.EmitStep.the-variants as step
+use Rattle.layout.specs.declared.state.Total.{Total}
 use Rattle.layout.specs.Refusals.{Refusal}
 use Rattle.layout.specs.Bytes.{padded}
 use Rattle.layout.specs.Records.{tableOf}
 use Rattle.layout.specs.Addresses.{labelAddress}
 use Rattle.layout.specs.Rounds.{constant}
 use Rattle.layout.specs.Layouts.{itemRow, Emitted, emit}
-use Rattle.layout.specs.code.Stands.{ItemsStand}
-use Rattle.layout.specs.code.Lent.{Lent, OverCall}
+use Rattle.layout.specs.code.Steps.{Agrees}
+use Rattle.layout.specs.code.Stands.{ItemsStand, totalOf}
+use Rattle.layout.specs.code.Lent.{LentSlice, OverCall}
 use Rattle.layout.specs.code.Placed.{StartsAt}
 use Rattle.layout.specs.code.Names.{Scope, NamesStand}
 
@@ -35,23 +35,17 @@ pub record Unemitted (t l n : List ℕ) (c : ℕ) (e x : List ℕ) (m : ℕ) (st
 abbrev pub emittedIn : Scope → Result Refusal Emitted
 emittedIn s = emit (s .base) (constant (s .known)) (labelAddress (s .base) (s .state)) (s .state .rest .own .items .list) [] []
 
--- words and items are what the definition emits, or both refuse with one number and line
+-- words and items are what the definition emits
 pub record EmitLeft (i w : List ℕ) (n : ℕ) (y : Emitted) : Type 0 where
   pub counted : n ≡ length (y .words)
   pub words : w ≡ padded (length w) (y .words)
   pub items : i ≡ tableOf (length i) itemRow (y .items)
 
-abbrev pub EmitAgrees : List ℕ → List ℕ → code.EmitStep → Result Refusal Emitted → Type 0
-EmitAgrees i w (step.Through n) (value y) = EmitLeft i w n y
-EmitAgrees i w (step.Through n) (refused r) = ⊥
-EmitAgrees i w (step.Refused n line) (value y) = ⊥
-EmitAgrees i w (step.Refused n line) (refused r) = (n ≡ r .number) × (line ≡ r .line)
-
 -- what is lent is to be emitted, and what it then has
-abbrev pub EmitReady : Lent → Lent → Lent → ℕ → Lent → Lent → ℕ → Starts → Lent → ℕ → Lent → Type 0
+abbrev pub EmitReady : LentSlice → LentSlice → LentSlice → ℕ → LentSlice → LentSlice → ℕ → Starts → LentSlice → ℕ → LentSlice → Type 0
 EmitReady t l n c e x m starts i count w = Unemitted (now t) (now l) (now n) c (now e) (now x) m starts (now i) count (now w)
 
-abbrev pub Emits : OverCall → OverCall → OverCall → ℕ → OverCall → OverCall → ℕ → Starts → OverCall → ℕ → OverCall → code.EmitStep → Type 0
+abbrev pub Emits : OverCall → OverCall → OverCall → ℕ → OverCall → OverCall → ℕ → Starts → OverCall → ℕ → OverCall → Total → Type 0
 Emits t l n c e x m starts i count w r =
-    (u : Unemitted (now (t .entry)) (now (l .entry)) (now (n .entry)) c (now (e .entry)) (now (x .entry)) m starts (now (i .entry)) count (now (w .entry)))
-    → EmitAgrees (now (i .exit)) (now (w .exit)) r (emittedIn (u .scope))
+    (u : EmitReady (t .entry) (l .entry) (n .entry) c (e .entry) (x .entry) m starts (i .entry) count (w .entry))
+    → Agrees (EmitLeft (now (i .exit)) (now (w .exit))) (totalOf r) (emittedIn (u .scope))

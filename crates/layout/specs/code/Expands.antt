@@ -78,14 +78,14 @@ abbrev pub longest : ℕ
 longest = 11
 
 -- all slots have ecalls; another instruction in the kth slot; others in the slots from the kth on
-abbrev slotOf : Instruction → Slot
-slotOf i = record { inst = i }
+abbrev slotWith : Instruction → Slot
+slotWith i = record { inst = i }
 
 abbrev pub ecallsOf : Count → Expansion
-ecallsOf c = record { slots = replicate longest (slotOf Ecall); count = c }
+ecallsOf c = record { slots = replicate longest (slotWith Ecall); count = c }
 
 abbrev pub withSlot : Expansion → ℕ → Instruction → Expansion
-withSlot e k i = record { slots = set (e .slots) k (slotOf i); count = e .count }
+withSlot e k i = record { slots = set (e .slots) k (slotWith i); count = e .count }
 
 abbrev pub withSlots : Expansion → ℕ → List Instruction → Expansion
 withSlots e k [] = e
@@ -93,7 +93,7 @@ withSlots e k (i ∷ is) = withSlots (withSlot e k i) (k + 1) is
 
 -- the instruction in the kth slot, and those in n slots from the kth on
 abbrev noSlot : Slot
-noSlot = slotOf (Add x0 x0 x0)
+noSlot = slotWith (Add x0 x0 x0)
 
 abbrev pub slotAt : List Slot → ℕ → Instruction
 slotAt xs k = getD xs k noSlot .inst
@@ -154,6 +154,6 @@ abbrev pub sourceSpan : ItemRecord → Span
 sourceSpan r = record { start = r .start; len = r .len }
 
 -- a record is of this item, and there is room for the words that it reserves
-pub record ItemFits (t : List ℕ) (n : ℕ) (r : ItemRecord) (item : Option Pseudo) : Type 0 where
+pub record ItemRecordFits (t : List ℕ) (n : ℕ) (r : ItemRecord) (item : Option Pseudo) : Type 0 where
   pub kind : r .kind ≡ itemKind item
   pub room : reservedWords item (spanned t (sourceSpan r)) ≤ n

@@ -11,11 +11,14 @@ use Rattle.numbers.specs.code.Tables.{rows, column, slotsBehind, slotted}
 use Rattle.layout.specs.declared.pseudo.Pseudo.{Pseudo}
 use Rattle.layout.specs.declared.pseudo.LineKind.{LineKind}
 use Rattle.layout.specs.declared.pseudo.LineKind.the-variants as kind
+use Rattle.layout.specs.declared.pseudo.TextLine.{TextLine}
+use Rattle.layout.specs.declared.pseudo.TextLine.the-variants as line
 use Rattle.layout.specs.Pseudos.{Item, ordinary, pseudo, other, Spelling, pseudoKind, spellings}
 
--- what a spelling names, as a number in a row: as an item's record has it, and 0 for one of the four others; a row has no ordinary line
+-- what a spelling names, as a number in a row: its kind as an item's record has it, and 0 for one of the four others; no spelling names an ordinary line
+-- (`spellings-named`)
 abbrev pub itemNumber : Item → ℕ
-itemNumber ordinary = 10
+itemNumber ordinary = 0
 itemNumber (pseudo p) = pseudoKind p
 itemNumber other = 0
 
@@ -35,24 +38,17 @@ PseudoNames t = SpellingTable spellings t
 abbrev pub beginsAsPseudo : List ℕ → Bool
 beginsAsPseudo s = startsWith (text "l") s || (startsWith (text "p") s || startsWith (text "r") s)
 
-abbrev pub kindCode : Item → Span → LineKind
-kindCode ordinary s = kind.Instr s
-kindCode (pseudo p) s = kind.Pseudo p s
-kindCode other s = kind.Unsupported s
+-- what a line is: an item of a kind, or one of the four others, which is refused before it is laid out
+abbrev pub textLineCode : Item → Span → TextLine
+textLineCode ordinary s = line.Item (kind.Instr s)
+textLineCode (pseudo p) s = line.Item (kind.Pseudo p s)
+textLineCode other s = line.Unsupported
 
--- the pseudo that a kind has, and where its source stands; an unsupported one is refused before it is laid out
+-- the pseudo that a kind has, and where its source stands
 abbrev pub kindItem : LineKind → Option Pseudo
 kindItem (kind.Instr s) = none
 kindItem (kind.Pseudo p s) = some p
-kindItem (kind.Unsupported s) = none
 
 abbrev pub kindSource : LineKind → Span
 kindSource (kind.Instr s) = s
 kindSource (kind.Pseudo p s) = s
-kindSource (kind.Unsupported s) = s
-
--- a line's kind as the number in its row
-abbrev pub kindNumber : LineKind → ℕ
-kindNumber (kind.Instr s) = itemNumber ordinary
-kindNumber (kind.Pseudo p s) = itemNumber (pseudo p)
-kindNumber (kind.Unsupported s) = itemNumber other

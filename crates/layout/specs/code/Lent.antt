@@ -19,46 +19,45 @@ use Rattle.layout.specs.declared.state.Step.{Step}
 use Rattle.layout.specs.declared.stage.Stage.{Stage}
 use Rattle.layout.specs.Refusals.{Refusal}
 use Rattle.layout.specs.State.{Label, Equate, LabelWord, Items, Stored, Own, Rest, State, start}
-use Rattle.layout.specs.code.Steps.{Some, Steps}
+use Rattle.layout.specs.code.Steps.{Some, Agrees, Steps}
 use Rattle.layout.specs.code.Stands.{LabelsStand, EquatesStand, ItemsStand, LabelWordsStand, StoredStand, OwnStand, RestStand, Stands}
 use Rattle.layout.specs.code.Stands.{labelStore, equateStore, dataStore, ownStore, restStore, Store, store}
-use Rattle.layout.specs.code.Stands.{startCounters, StageAgrees}
-use Rattle.layout.specs.code.Stands.{countOf, itemsOf, dataOf, ownOf, restOf, stepOf}
+use Rattle.layout.specs.code.Stands.{startCounters, countOf, itemsOf, dataOf, ownOf, restOf, stepOf, stageOf}
 
 -- bytes that are lent, and the same over a call
-abbrev pub Lent : Type 0
-Lent = RefT (List ℕ)
+abbrev pub LentSlice : Type 0
+LentSlice = RefT (List ℕ)
 
 abbrev pub OverCall : Type 0
-OverCall = Both Lent Lent
+OverCall = Both LentSlice LentSlice
 
 -- ---- what is lent stands for something
 
-abbrev pub LabelsReady : Lent → Lent → Lent → Room → ℕ → Type 0
+abbrev pub LabelsReady : LentSlice → LentSlice → LentSlice → Room → ℕ → Type 0
 LabelsReady t l n k c = Some (LabelsStand (now t) k c (labelStore (now l) (now n)))
 
-abbrev pub EquatesReady : Lent → Lent → Lent → Room → ℕ → Type 0
+abbrev pub EquatesReady : LentSlice → LentSlice → LentSlice → Room → ℕ → Type 0
 EquatesReady t e x k c = Some (EquatesStand (now t) k c (equateStore (now e) (now x)))
 
-abbrev pub ItemsReady : Lent → Lent → Room → ItemCount → Type 0
+abbrev pub ItemsReady : LentSlice → LentSlice → Room → ItemCount → Type 0
 ItemsReady t i k c = Some (ItemsStand (now t) k c (now i))
 
-abbrev pub LabelWordsReady : Lent → Lent → ℕ → Type 0
+abbrev pub LabelWordsReady : LentSlice → LentSlice → ℕ → Type 0
 LabelWordsReady t w c = Some (LabelWordsStand (now t) c (now w))
 
-abbrev pub DataReady : Lent → Lent → Lent → Room → DataCount → Type 0
+abbrev pub DataReady : LentSlice → LentSlice → LentSlice → Room → DataCount → Type 0
 DataReady t d w k c = Some (StoredStand (now t) k c (dataStore (now d) (now w)))
 
-abbrev pub OwnReady : Lent → Lent → Lent → Lent → Room → OwnCounters → Type 0
+abbrev pub OwnReady : LentSlice → LentSlice → LentSlice → LentSlice → Room → OwnCounters → Type 0
 OwnReady t i d w k c = Some (OwnStand (now t) k c (ownStore (now i) (now d) (now w)))
 
-abbrev pub RestReady : Lent → Lent → Lent → Lent → Lent → Lent → Room → RestCounters → Type 0
+abbrev pub RestReady : LentSlice → LentSlice → LentSlice → LentSlice → LentSlice → LentSlice → Room → RestCounters → Type 0
 RestReady t e x i d w k c = Some (RestStand (now t) k c (restStore (now e) (now x) (now i) (now d) (now w)))
 
-abbrev pub storeNow : Lent → Lent → Lent → Lent → Lent → Lent → Lent → Store
+abbrev pub storeNow : LentSlice → LentSlice → LentSlice → LentSlice → LentSlice → LentSlice → LentSlice → Store
 storeNow l n e x i d w = store (now l) (now n) (now e) (now x) (now i) (now d) (now w)
 
-abbrev pub StageReady : Lent → Lent → Lent → Lent → Lent → Lent → Lent → Lent → Room → Counters → Type 0
+abbrev pub StageReady : LentSlice → LentSlice → LentSlice → LentSlice → LentSlice → LentSlice → LentSlice → LentSlice → Room → Counters → Type 0
 StageReady t l n e x i d w k c = Some (Stands (now t) k c (storeNow l n e x i d w))
 
 -- ---- the answer r, with what is left in the buffers, is what f gives of what they stood for
@@ -105,11 +104,11 @@ StageSteps t l n e x i d w k c r f =
 -- ---- the whole stage
 
 -- nothing is laid out yet
-abbrev pub StageStarts : Lent → Lent → Lent → Lent → Lent → Lent → Lent → Lent → Room → Type 0
+abbrev pub StageStarts : LentSlice → LentSlice → LentSlice → LentSlice → LentSlice → LentSlice → LentSlice → LentSlice → Room → Type 0
 StageStarts t l n e x i d w k = Stands (now t) k startCounters (storeNow l n e x i d w) start
 
 -- the answer r, with what is left in the buffers, is what the definition comes to
 abbrev pub StageGives : OverCall → OverCall → OverCall → OverCall → OverCall → OverCall → OverCall → OverCall → Room → Stage
     → Result Refusal State → Type 0
 StageGives t l n e x i d w k r a =
-    StageAgrees (now (t .entry)) k (storeNow (l .exit) (n .exit) (e .exit) (x .exit) (i .exit) (d .exit) (w .exit)) r a
+    Agrees (λ c. Stands (now (t .entry)) k c (storeNow (l .exit) (n .exit) (e .exit) (x .exit) (i .exit) (d .exit) (w .exit))) (stageOf r) a

@@ -13,12 +13,12 @@ use Rattle.layout.specs.declared.equates.Value.the-variants as variant
 use Rattle.layout.specs.Limits.{textLimit, equateLimit}
 use Rattle.layout.specs.State.{State}
 use Rattle.layout.specs.Rounds.{Found, Known, look}
-use Rattle.layout.specs.Records.{Field, equateRecord, equateFields, tableOf}
+use Rattle.layout.specs.Records.{RecordField, equateRecord, equateFields, tableOf}
 use Rattle.layout.specs.code.Steps.{Some}
 use Rattle.layout.specs.code.Fits.{Each, EquateFits}
 use Rattle.layout.specs.code.Index.{Indexed}
 use Rattle.layout.specs.code.Stands.{labelStore}
-use Rattle.layout.specs.code.Lent.{Lent, OverCall}
+use Rattle.layout.specs.code.Lent.{LentSlice, OverCall}
 use Rattle.layout.specs.code.Placed.{LabelsPlaced}
 
 -- a value, or none
@@ -37,7 +37,7 @@ abbrev pub roundSoFar : Option Found → ℕ
 roundSoFar none = 0
 roundSoFar (some f) = f .round
 
-abbrev pub knownFields : Known → List Field
+abbrev pub knownFields : Known → List RecordField
 knownFields k = equateFields (equateRecord (k .equate .name) (k .equate .line) (valueSoFar (k .found)) (roundSoFar (k .found)))
 
 abbrev pub knownName : Known → List ℕ
@@ -86,7 +86,7 @@ pub record NamesStand (t l n : List ℕ) (c : ℕ) (e x : List ℕ) (m : ℕ) (s
   pub equates : EquateTable t e x m (s .known)
 
 -- what is lent stands for something: labels' records and index, equates' records and index
-abbrev pub NamesReady : Lent → Lent → Lent → ℕ → Lent → Lent → ℕ → Type 0
+abbrev pub NamesReady : LentSlice → LentSlice → LentSlice → ℕ → LentSlice → LentSlice → ℕ → Type 0
 NamesReady t l n c e x m = Some (NamesStand (now t) (now l) (now n) c (now e) (now x) m)
 
 -- P holds of whatever it stands for

@@ -5,24 +5,22 @@ use mathlib.Core.Path.{_≡_}
 use mathlib.Core.List.{List, map}
 use mathlib.Core.Option.{Option, none, some}
 use lib.ListN.{length}
-use Rattle.numbers.specs.Results.{Result, value, refused}
 use Rattle.layout.specs.declared.limits.Room.{Room}
 use Rattle.layout.specs.declared.addresses.Starts.{Starts}
 use Rattle.layout.specs.declared.addresses.Address.{Address}
 use Rattle.layout.specs.declared.addresses.Address.the-variants as address
-use Rattle.layout.specs.declared.fixups.Filled.{Filled}
-use Rattle.layout.specs.declared.fixups.Filled.the-variants as filled
 use Rattle.layout.specs.declared.state.Section.the-variants as section
 use Rattle.layout.specs.declared.state.Place.{Place}
+use Rattle.layout.specs.declared.state.Total.{Total}
 use Rattle.layout.specs.Limits.{baseLimit, textLimit, dataLimit}
 use Rattle.layout.specs.Bytes.{padded}
-use Rattle.layout.specs.Refusals.{Refusal}
 use Rattle.layout.specs.State.{State}
 use Rattle.layout.specs.Addresses.{sectionStart, placed, labelAddress, fill}
 use Rattle.layout.specs.code.Places.{placeCode, PlaceFits}
 use Rattle.layout.specs.code.Index.{Indexed, Distinct}
-use Rattle.layout.specs.code.Stands.{LabelStore, labelStore, dataStore, labelName, LabelsStand, StoredStand}
-use Rattle.layout.specs.code.Lent.{Lent, OverCall}
+use Rattle.layout.specs.code.Steps.{Agrees}
+use Rattle.layout.specs.code.Stands.{LabelStore, labelStore, dataStore, labelName, LabelsStand, StoredStand, totalOf}
+use Rattle.layout.specs.code.Lent.{LentSlice, OverCall}
 use Rattle.layout.specs.code.Orders.{LabelTable}
 
 -- where the sections start: the one place where the base comes in
@@ -66,9 +64,9 @@ abbrev pub Places : OverCall → ℕ → Starts → Type 0
 Places l count s =
     (u : Unplaced (now (l .entry)) count s) → LabelsPlaced (u .text) (u .base) (u .state) count (labelStore (now (l .exit)) (u .index))
 
-abbrev pub addressOf : Address → Option ℕ
-addressOf (address.At a) = some a
-addressOf address.Nothing = none
+abbrev pub addressFound : Address → Option ℕ
+addressFound (address.At a) = some a
+addressFound address.Nothing = none
 
 -- P holds of every base and state whose labels these are, with their addresses
 abbrev pub WherePlaced : OverCall → OverCall → OverCall → ℕ → (ℕ → State → Type 0) → Type 0
@@ -86,19 +84,17 @@ pub record Unfilled (t l n : List ℕ) (count : ℕ) (w : List ℕ) (words : ℕ
   pub labels : LabelsPlaced t base state count (labelStore l n)
   pub stored : StoredStand t room (record { bytes = size; «label_words» = words }) (dataStore d w) (state .rest .own .stored)
 
--- the data are what filling the label words leaves, or both refuse with one number and line
-abbrev pub FillAgrees : List ℕ → Filled → Result Refusal (List ℕ) → Type 0
-FillAgrees b filled.Through (value bytes) = b ≡ padded (length b) bytes
-FillAgrees b filled.Through (refused r) = ⊥
-FillAgrees b (filled.Refused m i) (value bytes) = ⊥
-FillAgrees b (filled.Refused m i) (refused r) = (m ≡ r .number) × (i ≡ r .line)
+-- all of so many label words are filled, and the data are what that leaves
+pub record FillLeft (words : ℕ) (d : List ℕ) (n : ℕ) (bytes : List ℕ) : Type 0 where
+  pub counted : n ≡ words
+  pub stored : d ≡ padded (length d) bytes
 
 -- what is lent is to be filled, and what it then has
-abbrev pub FillReady : Lent → Lent → Lent → ℕ → Lent → ℕ → Lent → Type 0
+abbrev pub FillReady : LentSlice → LentSlice → LentSlice → ℕ → LentSlice → ℕ → LentSlice → Type 0
 FillReady t l n count w words d = Unfilled (now t) (now l) (now n) count (now w) words (now d)
 
-abbrev pub Fills : OverCall → OverCall → OverCall → ℕ → OverCall → ℕ → OverCall → Filled → Type 0
+abbrev pub Fills : OverCall → OverCall → OverCall → ℕ → OverCall → ℕ → OverCall → Total → Type 0
 Fills t l n count w words d r =
     (u : FillReady (t .entry) (l .entry) (n .entry) count (w .entry) words (d .entry))
-    → FillAgrees (now (d .exit)) r
+    → Agrees (FillLeft words (now (d .exit))) (totalOf r)
     (fill (labelAddress (u .base) (u .state)) (u .state .rest .own .stored .labelWords) (u .state .rest .own .stored .bytes))

@@ -7,34 +7,31 @@ use mathlib.Core.Bool.{false}
 use mathlib.Core.Option.{none}
 use lib.IntN.{pos}
 use lib.ListN.{length, getD, set}
-use Rattle.numbers.specs.Results.{Result, value, refused}
 use Rattle.numbers.specs.Ints.{bits, signedOf}
 use Rattle.layout.specs.declared.addresses.Starts.{Starts}
 use Rattle.layout.specs.declared.expr.Partial.{Partial}
 use Rattle.layout.specs.declared.expr.Evaluated as answer
 use Rattle.layout.specs.declared.expr.Evaluated.the-variants.{Value, Waits, Refused}
 use Rattle.layout.specs.declared.rounds.Evaluation.{Evaluation}
-use Rattle.layout.specs.declared.rounds.Resolved.{Resolved}
-use Rattle.layout.specs.declared.rounds.Resolved.the-variants as resolved
 use Rattle.layout.specs.declared.state.Section.the-variants as section
-use Rattle.layout.specs.Refusals.{Refusal}
+use Rattle.layout.specs.declared.state.Total.{Total}
 use Rattle.layout.specs.Pieces.{piece}
 use Rattle.layout.specs.State.{Equate, State}
 use Rattle.layout.specs.Stage.{isLabel}
-use Rattle.layout.specs.Records.{Field, tableOf}
+use Rattle.layout.specs.Records.{RecordField, tableOf}
 use Rattle.layout.specs.Addresses.{addressAt}
 use Rattle.layout.specs.Rounds.{Known, pendingEquate, constant, look, isSome, turn, Turns}
 use Rattle.layout.specs.Layouts.{resolve}
-use Rattle.layout.specs.code.Steps.{Some}
-use Rattle.layout.specs.code.Stands.{exprSoFar}
-use Rattle.layout.specs.code.Lent.{Lent, OverCall}
+use Rattle.layout.specs.code.Steps.{Some, Agrees}
+use Rattle.layout.specs.code.Stands.{exprSoFar, totalOf}
+use Rattle.layout.specs.code.Lent.{LentSlice, OverCall}
 use Rattle.layout.specs.code.Placed.{StartsAt}
 use Rattle.layout.specs.code.Names.{EquateTable, Scope, NamesStand}
 use Rattle.layout.specs.code.Terms.{evaluatedOf, sumOn, Extends, TermWaits}
 
 -- ---- an equate's turn
 
-abbrev pub knownExpr : Known → List Field
+abbrev pub knownExpr : Known → List RecordField
 knownExpr k = exprSoFar (k .equate)
 
 -- names, the sections' starts, and the equates' expressions
@@ -94,7 +91,7 @@ pub record TurnAgain (t l n : List ℕ) (c : ℕ) (starts : Starts) (e x : List 
 
 -- ---- said of the references lent
 
-abbrev pub TurnReady : Lent → Lent → Lent → ℕ → Starts → Lent → Lent → ℕ → Lent → Type 0
+abbrev pub TurnReady : LentSlice → LentSlice → LentSlice → ℕ → Starts → LentSlice → LentSlice → ℕ → LentSlice → Type 0
 TurnReady t l n c starts e x m exprs = Some (TurnStand (now t) (now l) (now n) c starts (now e) (now x) m (now exprs))
 
 abbrev pub TurnKnown : OverCall → OverCall → OverCall → ℕ → Starts → OverCall → OverCall → ℕ → OverCall → (Scope → Type 0) → Type 0
@@ -102,7 +99,7 @@ TurnKnown t l n c starts e x m exprs P =
     (s : Scope) → TurnStand (now (t .entry)) (now (l .entry)) (now (n .entry)) c starts (now (e .entry)) (now (x .entry)) m (now (exprs .entry)) s
     → P s
 
-abbrev pub AgainReady : Lent → Lent → Lent → ℕ → Starts → Lent → Lent → ℕ → Lent → ℕ → ℕ → Partial → Type 0
+abbrev pub AgainReady : LentSlice → LentSlice → LentSlice → ℕ → Starts → LentSlice → LentSlice → ℕ → LentSlice → ℕ → ℕ → Partial → Type 0
 AgainReady t l n c starts e x m exprs round k p =
     Some (TurnAgain (now t) (now l) (now n) c starts (now e) (now x) m (now exprs) round k p)
 
@@ -132,25 +129,21 @@ putPartial w k p = set (set w (k * 2) (bits 64 (p .sum))) (k * 2 + 1) (p .at)
 abbrev pub pendingScope : ℕ → State → Scope
 pendingScope base σ = record { base = base; state = σ; known = map pendingEquate (σ .rest .equates) }
 
--- the equates are what the rounds leave, or both refuse with one number and line
-abbrev pub ResolveAgrees : List ℕ → List ℕ → List ℕ → ℕ → Resolved → Result Refusal Turns → Type 0
-ResolveAgrees t e x m (resolved.Through n) (value y) = (n ≡ y .evaluations) × EquateTable t e x m (y .known)
-ResolveAgrees t e x m (resolved.Through n) (refused r) = ⊥
-ResolveAgrees t e x m (resolved.Refused n i) (value y) = ⊥
-ResolveAgrees t e x m (resolved.Refused n i) (refused r) = (n ≡ r .number) × (i ≡ r .line)
-
-pub record RoundsStand (t l n : List ℕ) (c : ℕ) (starts : Starts) (e x : List ℕ) (m : ℕ) (exprs waits : List ℕ) (base : ℕ) (σ : State) : Type 0 where
+pub record RoundsStand (t l n : List ℕ) (c : ℕ) (starts : Starts) (e x : List ℕ) (m : ℕ) (exprs partials : List ℕ) (base : ℕ) (σ : State) : Type 0 where
   pub stand : TurnStand t l n c starts e x m exprs (pendingScope base σ)
-  pub room : m * 2 ≤ length waits
+  pub room : m * 2 ≤ length partials
 
-pub record ResolveReady (t l n : Lent) (c : ℕ) (starts : Starts) (e x : Lent) (m : ℕ) (exprs waits : Lent) : Type 0 where
+pub record ResolveReady (t l n : LentSlice) (c : ℕ) (starts : Starts) (e x : LentSlice) (m : ℕ) (exprs partials : LentSlice) : Type 0 where
   pub base : ℕ
   pub state : State
-  pub stands : RoundsStand (now t) (now l) (now n) c starts (now e) (now x) m (now exprs) (now waits) base state
+  pub stands : RoundsStand (now t) (now l) (now n) c starts (now e) (now x) m (now exprs) (now partials) base state
 
-abbrev pub Resolves : OverCall → OverCall → OverCall → ℕ → Starts → OverCall → OverCall → ℕ → OverCall → OverCall → Resolved → Type 0
-Resolves t l n c starts e x m exprs waits r =
-    (base : ℕ) (σ : State)
-    → RoundsStand (now (t .entry)) (now (l .entry)) (now (n .entry)) c starts (now (e .entry)) (now (x .entry)) m (now (exprs .entry))
-    (now (waits .entry)) base σ
-    → ResolveAgrees (now (t .entry)) (now (e .exit)) (now (x .entry)) m r (resolve base σ (σ .rest .equates))
+-- the equates are what the rounds leave, by so many evaluations
+pub record ResolveLeft (t e x : List ℕ) (m n : ℕ) (y : Turns) : Type 0 where
+  pub evaluations : n ≡ y .evaluations
+  pub equates : EquateTable t e x m (y .known)
+
+abbrev pub Resolves : OverCall → OverCall → OverCall → ℕ → Starts → OverCall → OverCall → ℕ → OverCall → OverCall → Total → Type 0
+Resolves t l n c starts e x m exprs partials r =
+    (s : ResolveReady (t .entry) (l .entry) (n .entry) c starts (e .entry) (x .entry) m (exprs .entry) (partials .entry))
+    → Agrees (ResolveLeft (now (t .entry)) (now (e .exit)) (now (x .entry)) m) (totalOf r) (resolve (s .base) (s .state) (s .state .rest .equates))

@@ -28,15 +28,17 @@ use Rattle.layout.specs.declared.state.RestStep.{RestStep}
 use Rattle.layout.specs.declared.state.RestStep.the-variants as rest-step
 use Rattle.layout.specs.declared.state.Step.{Step}
 use Rattle.layout.specs.declared.state.Step.the-variants as step
+use Rattle.layout.specs.declared.state.Total.{Total}
+use Rattle.layout.specs.declared.state.Total.the-variants as total
 use Rattle.layout.specs.declared.stage.Stage.{Stage}
-use Rattle.layout.specs.declared.stage.Stage.the-variants.{Through, Refused}
+use Rattle.layout.specs.declared.stage.Stage.the-variants as stage
 use Rattle.layout.specs.Bytes.{padded}
-use Rattle.layout.specs.Refusals.{Refusal}
+use Rattle.layout.specs.Refusals.{Refusal, atLine}
 use Rattle.layout.specs.Limits.{wordLimit, dataLimit, bssLimit, labelLimit, equateLimit, labelWordLimit, itemLimit}
 use Rattle.layout.specs.Limits.{labelSize, equateSize, itemSize}
 use Rattle.layout.specs.Pseudos.{itemKind}
 use Rattle.layout.specs.State.{Label, Equate, ItemLine, LabelWord, Items, Stored, Own, Rest, State}
-use Rattle.layout.specs.Records.{Field, labelRecord, labelFields, equateRecord, equateFields, itemRecord, itemFields, tableOf}
+use Rattle.layout.specs.Records.{RecordField, labelRecord, labelFields, equateRecord, equateFields, itemRecord, itemFields, tableOf}
 use Rattle.layout.specs.code.Places.{placeCode}
 use Rattle.layout.specs.code.Tables.{exprRoom, labelWordRoom, exprFields, labelWordFields}
 use Rattle.layout.specs.code.Index.{Indexed, Distinct, labelIndexRoom}
@@ -46,13 +48,13 @@ use Rattle.layout.specs.code.Fits.{Each, LabelsFit, EquatesFit, ItemsFit
 
 -- a label with its place for its address; an equate without value and round, and its expression apart; an item with its offset for its
 -- address and without its first word's index
-abbrev pub labelSoFar : Label → List Field
+abbrev pub labelSoFar : Label → List RecordField
 labelSoFar l = labelFields (labelRecord (l .name) (placeCode (l .place)) (l .line))
 
-abbrev pub equateSoFar : Equate → List Field
+abbrev pub equateSoFar : Equate → List RecordField
 equateSoFar e = equateFields (equateRecord (e .name) (e .line) (pos 0) 0)
 
-abbrev pub exprSoFar : Equate → List Field
+abbrev pub exprSoFar : Equate → List RecordField
 exprSoFar e =
     exprFields (record {
       start = e .expr .source .at;
@@ -61,7 +63,7 @@ exprSoFar e =
       place = placeCode (e .place);
     })
 
-abbrev pub itemSoFar : ItemLine → List Field
+abbrev pub itemSoFar : ItemLine → List RecordField
 itemSoFar x = itemFields (itemRecord (x .offset) (x .line) (itemKind (x .item)) 0 (x .source))
 
 -- the label word that a record is of
@@ -180,6 +182,7 @@ store l n e x i d w = record { labels = labelStore l n; rest = restStore e x i d
 
 -- ---- answers
 
+-- a line's: the refusal is its number
 abbrev pub countOf : Count → Result ℕ ℕ
 countOf (count.Now n) = value n
 countOf (count.Stop n) = refused n
@@ -204,12 +207,14 @@ abbrev pub stepOf : Step → Result ℕ Counters
 stepOf (step.Now c) = value c
 stepOf (step.Stop n) = refused n
 
--- the stage's answer is what the definition comes to
-abbrev pub StageAgrees : List ℕ → Room → Store → Stage → Result Refusal State → Type 0
-StageAgrees t k b (Through c) (value σ) = Stands t k c b σ
-StageAgrees t k b (Through c) (refused r) = ⊥
-StageAgrees t k b (Refused m i) (value σ) = ⊥
-StageAgrees t k b (Refused m i) (refused r) = (m ≡ r .number) × (i ≡ r .line)
+-- a stage's: the refusal has its line
+abbrev pub totalOf : Total → Result Refusal ℕ
+totalOf (total.Through n) = value n
+totalOf (total.Refused n line) = atLine line (refused n)
+
+abbrev pub stageOf : Stage → Result Refusal Counters
+stageOf (stage.Through c) = value c
+stageOf (stage.Refused n line) = atLine line (refused n)
 
 -- ---- counters
 

@@ -8,8 +8,8 @@ pub record Some {A : Type 0} (P : A → Type 0) : Type 0 where
   pub it : A
   pub stands : P it
 
--- the code's counter stands for the definition's value, or both refuse with one number
-abbrev pub Agrees : {C A : Type 0} → (C → A → Type 0) → Result ℕ C → Result ℕ A → Type 0
+-- the code's value stands by Q for the definition's, or both refuse alike
+abbrev pub Agrees : {R C A : Type 0} → (C → A → Type 0) → Result R C → Result R A → Type 0
 Agrees Q (value c) (value a) = Q c a
 Agrees Q (value c) (refused n) = ⊥
 Agrees Q (refused m) (value a) = ⊥

@@ -13,7 +13,7 @@ use Rattle.layout.specs.declared.records.LabelWordRecord.{LabelWordRecor
 use Rattle.layout.specs.declared.labels.Lookup.{Lookup}
 use Rattle.layout.specs.declared.labels.Lookup.the-variants as lookup
 use Rattle.layout.specs.Limits.{labelSize, equateLimit, labelWordLimit}
-use Rattle.layout.specs.Records.{Field, four, fourAt, labelRecordAt, equateRecordAt}
+use Rattle.layout.specs.Records.{RecordField, four, fourAt, labelRecordAt, equateRecordAt}
 use Rattle.layout.specs.code.Index.{Indexed, Distinct}
 
 -- ---- an equate's expression, and a label word: 16 bytes each
@@ -35,10 +35,10 @@ abbrev pub flagOf : Bool → ℕ
 flagOf true = 1
 flagOf false = 0
 
-abbrev pub exprFields : ExprRecord → List Field
+abbrev pub exprFields : ExprRecord → List RecordField
 exprFields r = four (r .start) ∷ four (r .len) ∷ four (flagOf (r .«one_space»)) ∷ four (r .place) ∷ []
 
-abbrev pub labelWordFields : LabelWordRecord → List Field
+abbrev pub labelWordFields : LabelWordRecord → List RecordField
 labelWordFields r = four (r .at) ∷ four (r .start) ∷ four (r .len) ∷ four (r .line) ∷ []
 
 -- ---- read back

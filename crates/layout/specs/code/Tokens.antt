@@ -4,16 +4,19 @@ use mathlib.Core.Path.{_≡_}
 use mathlib.Core.List.{List, [], _∷_}
 use mathlib.Core.Bool.{Bool, cond}
 use mathlib.Core.Option.{Option, none, some}
+use lib.Dec.{eqb}
 use lib.ListN.{length, drop, getD}
 use lib.IntN.{ℤ}
-use Rattle.numbers.specs.Text.{oneSpaced}
+use Rattle.numbers.specs.Text.{byte, oneSpaced}
 use Rattle.numbers.specs.code.Spans.{spanned}
 use Rattle.numbers.specs.code.Cursors.{isSeparator}
 use Rattle.layout.specs.declared.tokens.Token as code
 use Rattle.layout.specs.declared.tokens.Token.the-variants as kind
+use Rattle.layout.specs.declared.tokens.Sign.{Sign}
+use Rattle.layout.specs.declared.tokens.Sign.the-variants as sign
 use Rattle.layout.specs.declared.tokens.TokenAt.{TokenAt}
 use Rattle.layout.specs.declared.tokens.TokenAt.the-variants.{At, End}
-use Rattle.layout.specs.Expressions.{Token, plus, minus, dot, number, name, unreadable, isBlank, scan, tokens}
+use Rattle.layout.specs.Expressions.{Token, plus, minus, dot, number, name, unreadable, isBlank, positive, negative, scan, tokens}
 use Rattle.layout.specs.code.Spans.{SpanWithin}
 
 -- a token of a text, its name spelled out
@@ -24,6 +27,10 @@ tokenOf s kind.Dot = dot
 tokenOf s (kind.Number z) = number z
 tokenOf s (kind.Name p) = name (spanned s p)
 tokenOf s kind.Unreadable = unreadable
+
+-- what a byte is as a sign
+abbrev pub signOf : ℕ → Sign
+signOf b = cond (eqb b (byte "+")) (sign.Is positive) (cond (eqb b (byte "-")) (sign.Is negative) sign.Nothing)
 
 -- the token of what a number's bytes read as (`numberToken`)
 abbrev pub numeral : Option ℤ → code.Token

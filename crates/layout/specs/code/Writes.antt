@@ -20,14 +20,14 @@ use Rattle.layout.specs.declared.data.Reading.{Reading}
 use Rattle.layout.specs.declared.data.Reading.the-variants as reading
 use Rattle.layout.specs.declared.data.Next.{Next}
 use Rattle.layout.specs.declared.data.Next.the-variants as next
-use Rattle.layout.specs.Bytes.{le}
+use Rattle.layout.specs.Bytes.{littleEndian}
 use Rattle.layout.specs.Directives.{Write, bytes, gap, addressOf, widthBytes, reservation, operandWrite, stringWrite, storeWrites}
 use Rattle.layout.specs.code.Spans.{SpanWithin}
 use Rattle.layout.specs.code.Rows.{Small}
 use Rattle.layout.specs.code.Steps.{Some}
 
 abbrev pub writeAt : List ℕ → code.Write → Write
-writeAt t (kind.Number w v) = bytes (le (widthBytes w) (bits 64 v))
+writeAt t (kind.Number w v) = bytes (littleEndian (widthBytes w) (bits 64 v))
 writeAt t (kind.Text q zeros) = bytes (spanned t q ++ replicate zeros 0)
 writeAt t (kind.Gap r) = gap r
 writeAt t (kind.Address q) = addressOf (spanned t q)
@@ -49,16 +49,16 @@ ReadingFits t (reading.Refused n) = Unit
 
 -- the n bytes that it puts into the data, and that n is a string's length
 abbrev pub writtenBytes : List ℕ → ℕ → code.Write → List ℕ
-writtenBytes t n (kind.Number w v) = le n (bits 64 v)
+writtenBytes t n (kind.Number w v) = littleEndian n (bits 64 v)
 writtenBytes t n (kind.Text q zeros) = spanned t q ++ replicate zeros 0
 writtenBytes t n (kind.Gap r) = replicate n 0
 writtenBytes t n (kind.Address q) = replicate n 0
 
-abbrev pub Sized : code.Write → ℕ → Type 0
-Sized (kind.Number w v) n = Unit
-Sized (kind.Text q zeros) n = n ≡ q .len + zeros
-Sized (kind.Gap r) n = Unit
-Sized (kind.Address q) n = Unit
+abbrev pub TextSized : code.Write → ℕ → Type 0
+TextSized (kind.Number w v) n = Unit
+TextSized (kind.Text q zeros) n = n ≡ q .len + zeros
+TextSized (kind.Gap r) n = Unit
+TextSized (kind.Address q) n = Unit
 
 -- ---- reading by reading
 

@@ -5,21 +5,21 @@ use Rattle.layout.proofs.assembler.after_lines.Statement.{statement}
 use Rattle.layout.proofs.assembler.after_lines.Tie as tie
 
 resolve-symbols-requires : tie.Need-resolve-symbols-requires
-resolve-symbols-requires c κs = let s = c .before .before .before .before .before .before .before .before .before .before .before .before .before .before .before .pre in record { room = s .room; state = s .state; stands = symbols-ready (s .read) }
+resolve-symbols-requires c κs = let s = c .before .before .before .before .before .before .before .before .before .before .before .before .before .before .before .pre in symbols-ready s
 
 emit-and-order-requires : tie.Need-emit-and-order-requires
 emit-and-order-requires c κs =
     let s = c .before .before .before .before .before .before .before .before .before .before .before .before .before .before .before .before .before .before .before .before .before .before .before .before .before .before .before .before .before .before .before .before .before .pre in
-    resolved-read (s .read) _ _ _ _ _ (rw (c .before .before .before .before .before .before .before .evaluations .given .1) at (c .before .before .before .before .before .before .before .before .before .before .before .before .before .before .before .before .before .resolve-symbols .ensures (record { room = s .room; state = s .state; stands = symbols-ready (s .read) })))
+    resolved-read s _ _ _ _ _ (rw (c .before .before .before .before .before .before .before .evaluations .given .1) at (c .before .before .before .before .before .before .before .before .before .before .before .before .before .before .before .before .before .resolve-symbols .ensures (symbols-ready s)))
 
 returns : tie.Need-returns
 returns c =
     λ s. c .before .before .before .before .before .before .before .before .emit-and-order .ensures
-    (resolved-read (s .read) _ _ _ _ _ (rw (c .before .before .before .before .before .before .before .before .before .before .before .before .before .before .before .before .evaluations .given .1) at (c .before .before .before .before .before .before .before .before .before .before .before .before .before .before .before .before .before .before .before .before .before .before .before .before .before .before .resolve-symbols .ensures (record { room = s .room; state = s .state; stands = symbols-ready (s .read) }))))
+    (resolved-read s _ _ _ _ _ (rw (c .before .before .before .before .before .before .before .before .before .before .before .before .before .before .before .before .evaluations .given .1) at (c .before .before .before .before .before .before .before .before .before .before .before .before .before .before .before .before .before .before .before .before .before .before .before .before .before .before .resolve-symbols .ensures (symbols-ready s))))
 
 returns-2 : tie.Need-returns-2
 returns-2 c =
-    λ s. symbols-stop (s .read) _ _ _ _ 0 _ _ (rw (c .before .n .given .1) at (c .before .before .before .before .before .before .before .before .before .before .before .resolve-symbols .ensures (record { room = s .room; state = s .state; stands = symbols-ready (s .read) }))) _
+    λ s. symbols-stop s _ _ _ _ _ (rw (c .before .n .given .1) at (c .before .before .before .before .before .before .before .before .before .before .before .resolve-symbols .ensures (symbols-ready s))) _
 
 pub after-lines-spec : {M : Type 1} → statement M
 after-lines-spec =

@@ -5,7 +5,7 @@ use Rattle.layout.specs.Stage.{lineStage}
 use Rattle.layout.specs.State.{start}
 use Rattle.layout.proofs.CallLaws.{lines-ready, room-words, lines-read, lines-go, lines-stop}
 use denote.Ref.{now}
-use Rattle.layout.specs.code.Calls.{buffers, lengths}
+use Rattle.layout.specs.code.Calls.{buffers, lengths, laidOf}
 use borrow.Author.Needs.{needs}
 use Rattle.layout.proofs.assembler.lay_lines.Statement.{statement}
 use Rattle.layout.proofs.assembler.lay_lines.Tie as tie
@@ -21,7 +21,7 @@ after-lines-requires c κs =
     let pre = c .before .before .before .before .before .before .before .before .before .before .before .before .before .before .before .before .before .before .before .before .before .before .before .before .before .before .before .before .before .before .before .before .before .before .before .before .before .pre in
     let of = c .before .before .before .before .before .before .before .before .before .before .before .before .before .before .before .before .before .before .before .before .before .before .before .before .before .before .before .before .before .before .of in
     let q = lines-read (now (a .text)) (of .result) (a .base) _ _ _ _ _ _ _ _ _ (pre .1) (pre .0) (pre .2) (room-words _ (lengths (buffers (now (a .words)) (now (a .data-bytes)) (now (a .labels)) (now (a .equates)) (now (a .items)))) (of .ensures)) (lineStage (of .result) 0 (linePieces 0 (lines (now (a .text)))) start) (rw (c .before .before .before .before .before .before .before .before .before .st .given .1) at (c .before .before .before .before .before .before .before .before .before .before .before .before .before .before .before .before .before .before .before .before .before .before .line-stage .ensures)) in
-    record { room = _; state = q .state; read = q .read }
+    q .read
 
 same-length-3 : tie.Need-same-length-3
 same-length-3 c = omega (arith, c .before .before .before .before .before .before .before .before .before .before .before .before .before .before .before .before .before .before .before .before .before .before .before .before .before .before .before .before .before .before .before .before .before .before .line-stage .kept, c .before .before .before .before .before .before .before .before .before .before .before .after-lines .kept)
@@ -34,12 +34,12 @@ returns c =
     let r = c .before .before .before .before .before .before .before .before .before .before .before .after-lines in
     let lent = lengths (buffers (now (a .words)) (now (a .data-bytes)) (now (a .labels)) (now (a .equates)) (now (a .items))) in
     let q = lines-read (now (a .text)) (of .result) (a .base) _ _ _ _ _ _ _ _ _ (pre .1) (pre .0) (pre .2) (room-words _ lent (of .ensures)) (lineStage (of .result) 0 (linePieces 0 (lines (now (a .text)))) start) (rw (c .before .before .before .before .before .before .before .before .before .before .before .before .before .before .before .before .before .before .before .before .before .st .given .1) at (c .before .before .before .before .before .before .before .before .before .before .before .before .before .before .before .before .before .before .before .before .before .before .before .before .before .before .before .before .before .before .before .before .before .before .line-stage .ensures)) in
-    lines-go (now (a .text)) (a .base) lent (of .result) (of .ensures) (q .state) (q .are) (buffers (r .last .1 .1 .1 .1 .1 .1 .1 .1 .1 .1 .0) (r .last .1 .1 .1 .1 .1 .1 .1 .1 .0) (r .last .1 .1 .1 .0) (r .last .1 .1 .1 .1 .1 .0) (r .last .1 .1 .1 .1 .1 .1 .1 .0)) (r .result) (r .ensures (record { room = _; state = q .state; read = q .read }))
+    lines-go (now (a .text)) (a .base) lent (of .result) (of .ensures) (q .read .state) (q .are) (buffers (r .last .1 .1 .1 .1 .1 .1 .1 .1 .1 .1 .0) (r .last .1 .1 .1 .1 .1 .1 .1 .1 .0) (r .last .1 .1 .1 .0) (r .last .1 .1 .1 .1 .1 .0) (r .last .1 .1 .1 .1 .1 .1 .1 .0)) (laidOf (r .result)) (r .ensures (q .read))
 
 returns-2 : tie.Need-returns-2
 returns-2 c =
     let a = c .before .before .before .before .before .before .before .before .before .before .before .before .before .before .before .before .before .before .before .before .before .before .before .before .before .before .before .before .before .args in
-    lines-stop (now (a .text)) (a .base) (lengths (buffers (now (a .words)) (now (a .data-bytes)) (now (a .labels)) (now (a .equates)) (now (a .items)))) _ (c .before .before .before .before .before .before .before .before .before .before .before .before .before .before .before .before .before .before .before .before .before .before .of .ensures) _ _ _ (rw (c .before .n .given .1) at (c .before .before .before .before .before .before .before .before .before .before .before .before .before .before .line-stage .ensures)) _
+    lines-stop (now (a .text)) (a .base) (lengths (buffers (now (a .words)) (now (a .data-bytes)) (now (a .labels)) (now (a .equates)) (now (a .items)))) _ (c .before .before .before .before .before .before .before .before .before .before .before .before .before .before .before .before .before .before .before .before .before .before .of .ensures) _ _ (rw (c .before .n .given .1) at (c .before .before .before .before .before .before .before .before .before .before .before .before .before .before .line-stage .ensures)) _
 
 pub lay-lines-spec : {M : Type 1} → statement M
 lay-lines-spec =

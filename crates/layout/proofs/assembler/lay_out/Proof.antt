@@ -1,7 +1,7 @@
 -- `assembler::lay_out`: 40, 41, 1, then the lines.
 use Rattle.layout.proofs.CallLaws.{base-stop, text-stop, bytes-stop, bytes-go}
 use denote.Ref.{now}
-use Rattle.layout.specs.code.Calls.{buffers, lengths}
+use Rattle.layout.specs.code.Calls.{buffers, lengths, laidOf}
 use borrow.Author.Needs.{needs}
 use Rattle.layout.proofs.assembler.lay_out.Statement.{statement}
 use Rattle.layout.proofs.assembler.lay_out.Tie as tie
@@ -16,7 +16,7 @@ returns-3 : tie.Need-returns-3
 returns-3 c =
     let a = c .before .before .before .before .before .before .before .before .before .before .before .before .before .before .before .before .before .before .before .before .before .before .before .before .before .before .before .args in
     let r = c .before .before .before .before .before .before .before .before .before .before .lay-lines in
-    bytes-go (now (a .text)) (a .base) (lengths (buffers (now (a .words)) (now (a .data-bytes)) (now (a .labels)) (now (a .equates)) (now (a .items)))) (buffers (r .last .1 .1 .0) (r .last .1 .1 .1 .0) (r .last .1 .1 .1 .1 .0) (r .last .1 .1 .1 .1 .1 .0) (r .last .1 .1 .1 .1 .1 .1 .0)) (c .before .before .before .before .before .before .before .before .before .before .before .before .before .before .before .before .before .before .before .before .if1 .left) (c .before .before .before .before .before .before .before .before .before .before .before .before .before .before .before .before .before .before .before .if2 .left) (r .result) (rw (c .before .before .before .before .before .before .before .before .before .before .before .before .before .before .before .before .enum-told .given .1) at (c .before .before .before .before .before .before .before .before .before .before .before .before .before .before .before .before .before .before .check-bytes .ensures)) (r .ensures)
+    bytes-go (now (a .text)) (a .base) (lengths (buffers (now (a .words)) (now (a .data-bytes)) (now (a .labels)) (now (a .equates)) (now (a .items)))) (buffers (r .last .1 .1 .0) (r .last .1 .1 .1 .0) (r .last .1 .1 .1 .1 .0) (r .last .1 .1 .1 .1 .1 .0) (r .last .1 .1 .1 .1 .1 .1 .0)) (c .before .before .before .before .before .before .before .before .before .before .before .before .before .before .before .before .before .before .before .before .if1 .left) (c .before .before .before .before .before .before .before .before .before .before .before .before .before .before .before .before .before .before .before .if2 .left) (laidOf (r .result)) (rw (c .before .before .before .before .before .before .before .before .before .before .before .before .before .before .before .before .enum-told .given .1) at (c .before .before .before .before .before .before .before .before .before .before .before .before .before .before .before .before .before .before .check-bytes .ensures)) (r .ensures)
 
 returns-4 : tie.Need-returns-4
 returns-4 c = bytes-stop _ _ _ _ (c .before .before .before .before .before .if1 .left) (c .before .before .before .before .if2 .left) _ (rw (c .before .line .given .1) at (c .before .before .before .check-bytes .ensures))

@@ -7,6 +7,7 @@ use denote.Ref.{now}
 use Rattle.numbers.specs.declared.operands.Operand.the-variants.{At}
 use Rattle.numbers.specs.code.Spans.{spanned}
 use Rattle.numbers.specs.code.Cursors.{operandAt}
+use Rattle.numbers.proofs.Shorts.{short-means}
 use Rattle.layout.proofs.ReadingLaws.{operand-within, operand-first, operand-none, short-first}
 use borrow.Author.Needs.{needs}
 use Rattle.layout.proofs.data.next_number.Statement.{statement}
@@ -22,7 +23,7 @@ returns c =
     let t = now (start .args .text) in
     let z = at-signed .signed .result in
     let f : SFits w64 z = search needs in
-    let short = rw (at-short-number .before .span-bytes .ensures, at-v .v .given .1) at (at-short-number .short-number .ensures) in
+    let short = short-means _ _ _ _ (rw (at-short-number .before .span-bytes .ensures) at (sym (at-short-number .short-number .ensures) ∙ at-v .v .given .1)) in
     let operand = spanned (spanned t (start .args .part)) (short .operand) in
     let is = rw (toZ-ofZ f) at (at-number-write .number-write .ensures t operand) in
     rw (c .next-of .ensures)

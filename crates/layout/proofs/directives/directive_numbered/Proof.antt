@@ -1,11 +1,14 @@
 -- `directives::directive_numbered`: the last arm has what is none of the others.
-use Rattle.layout.proofs.DirectiveLaws.{others-least}
+use native.Mathlib.Omega.{arith}
+use Rattle.layout.proofs.DirectiveLaws.{others-above}
 use borrow.Author.Needs.{needs}
 use Rattle.layout.proofs.directives.directive_numbered.Statement.{statement}
 use Rattle.layout.proofs.directives.directive_numbered.Tie as tie
 
 returns-12 : tie.Need-returns-12
-returns-12 c = others-least 11 (c .before .args .kind) (c .match .rest)
+returns-12 c =
+    let s = c .before in
+    omega (arith, s .pre, others-above 0 11 (s .args .kind) (omega arith) (c .match .rest))
 
 pub directive-numbered-spec : {M : Type 1} → statement M
 directive-numbered-spec =

@@ -7,7 +7,7 @@ use mir.Val.{Fits}
 use lib.ListN.{length}
 use denote.Ref.{now}
 use Rattle.layout.specs.Directives.{directives}
-use Rattle.layout.proofs.DirectiveLaws.{directives-numbered, row-past, row-here, length-fits, no-row}
+use Rattle.layout.proofs.DirectiveLaws.{directives-small, row-past, directive-few, row-here, length-fits, no-row}
 use borrow.Author.Needs.{needs}
 use Rattle.layout.proofs.directives.directive_of.Statement.{statement}
 use Rattle.layout.proofs.directives.directive_of.Tie as tie
@@ -23,7 +23,14 @@ returns-2 : tie.Need-returns-2
 unfolding directives
 returns-2 c =
     let o = c .before .before .before .before .before .before in
-    row-past directives (now (o .args .names)) (now (o .args .s)) (o .pre) directives-numbered _ (c .before .prefix-in .ensures) (c .if2 .taken)
+    row-past directives (now (o .args .names)) (now (o .args .s)) (o .pre) directives-small _ (c .before .prefix-in .ensures) (c .if2 .taken)
+
+directive-numbered-requires : tie.Need-directive-numbered-requires
+unfolding directives
+directive-numbered-requires c κs =
+    let row = c .before in
+    let o = row .before .before .before .before .before .before in
+    directive-few directives (now (o .args .names)) (now (o .args .s)) (o .pre) directives-small _ (row .before .prefix-in .ensures) (row .if2 .left)
 
 cast-t18 : tie.Need-cast-t18
 unfolding directives
@@ -31,14 +38,14 @@ cast-t18 c =
     let row = c .before .before .before in
     let o = row .before .before .before .before .before .before in
     let f : Fits w64 (length (now (o .args .s))) = search needs in
-    length-fits directives (now (o .args .names)) (now (o .args .s)) (o .pre) directives-numbered _ (row .before .prefix-in .ensures) (row .if2 .left) (c .before .directive-numbered .result) (c .before .directive-numbered .ensures) f
+    length-fits directives (now (o .args .names)) (now (o .args .s)) (o .pre) directives-small _ (row .before .prefix-in .ensures) (row .if2 .left) (c .before .directive-numbered .result) (c .before .directive-numbered .ensures) f
 
 returns-3 : tie.Need-returns-3
 unfolding directives
 returns-3 c =
     let row = c .before .before .before .before in
     let o = row .before .before .before .before .before .before in
-    row-here directives (now (o .args .names)) (now (o .args .s)) (o .pre) directives-numbered _ (row .before .prefix-in .ensures) (row .if2 .left) _
+    row-here directives (now (o .args .names)) (now (o .args .s)) (o .pre) directives-small _ (row .before .prefix-in .ensures) (row .if2 .left) _
     (c .before .before .directive-numbered .ensures)
 
 pub directive-of-spec : {M : Type 1} → statement M
@@ -52,7 +59,7 @@ directive-of-spec =
     (λ c. search needs)  -- mul-at
     (λ c. search needs)  -- add-directive-numbered
     (λ c. search needs)  -- element-copy-out-directive-numbered
-    (λ c κs. search needs)  -- directive-numbered-requires
+    directive-numbered-requires
     (λ c. search needs)  -- add-t14
     (λ c. search needs)  -- element-copy-out-t17
     cast-t18

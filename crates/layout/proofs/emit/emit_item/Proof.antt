@@ -2,8 +2,7 @@
 use native.Mathlib.Omega.{arith}
 use mathlib.Core.Path.{_∙_}
 use Rattle.layout.specs.code.Kinds.{kindItem}
-use Rattle.layout.proofs.PseudoLaws.{item-told}
-use Rattle.layout.proofs.Fields.{kind-small}
+use Rattle.layout.proofs.PseudoLaws.{kind-small, item-told}
 use borrow.Author.Needs.{needs}
 use Rattle.layout.proofs.emit.emit_item.Statement.{statement}
 use Rattle.layout.proofs.emit.emit_item.Tie as tie

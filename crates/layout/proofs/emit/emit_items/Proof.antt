@@ -2,7 +2,7 @@
 use Prim.Native.Nat.{_-_}
 use mathlib.Core.Path.{refl}
 use native.Mathlib.Omega.{arith}
-use Rattle.layout.proofs.EmitSteps.{EmitLoop, emit-first, emit-few, emit-low, emit-within, emit-ends, emit-lent, emit-fits, emit-coded, emit-stops, emit-more, emit-goes}
+use Rattle.layout.proofs.EmitSteps.{EmitLoop, emit-first, emit-few, emit-low, emit-within, emit-ends, emit-lent, item-record-fits, emit-coded, emit-stops, emit-more, emit-goes}
 use Rattle.layout.proofs.ByteLaws.{length-mid}
 use borrow.Author.Needs.{needs}
 use Rattle.layout.proofs.emit.emit_items.Statement.{statement}
@@ -37,7 +37,7 @@ emit-item-requires c κs =
     let inv = c .before .before .before .before .loop .inv in
     let item = c .before .get-item in (
       record { it = u .scope; stands = u .names },
-      emit-fits u inv (c .before .before .before .loop-test .taken) (item .result) (item .ensures) _ (length-mid _ (c .before .before .before .before .loop .words)),
+      item-record-fits u inv (c .before .before .before .loop-test .taken) (item .result) (item .ensures) _ (length-mid _ (c .before .before .before .before .loop .words)),
     )
 
 address-requires : tie.Need-address-requires Inv-loop μ-loop

@@ -6,9 +6,6 @@ use Rattle.layout.proofs.emit.emit_line.Tie as tie
 put-ordinary-requires : tie.Need-put-ordinary-requires
 put-ordinary-requires c κs = rw (c .before .enum-told .given .1) at (c .before .before .before .before .before .before .before .before .before .pre .1)
 
-put-ordinary-requires-2 : tie.Need-put-ordinary-requires-2
-put-ordinary-requires-2 c κs = rw (c .before .enum-told2 .given .1) at (c .before .before .before .before .before .before .before .before .before .pre .1)
-
 emit-pseudo-requires : tie.Need-emit-pseudo-requires
 emit-pseudo-requires c κs =
     let pre = c .before .before .before .before .before .before .before .before .before .before .before .pre in
@@ -23,9 +20,6 @@ returns-2 c =
     let call = c .before .before in
     λ names stand. rw (call .before .before .before .before .kind .given .1) (rw (call .before .before .span-bytes .ensures) at (call .emit-pseudo .ensures names stand))
 
-returns-3 : tie.Need-returns-3
-returns-3 c = λ names stand. rw (c .before .before .before .before .enum-told2 .given .1) (c .before .before .put-ordinary2 .ensures)
-
 pub emit-line-spec : {M : Type 1} → statement M
 emit-line-spec =
     tie.close
@@ -35,11 +29,7 @@ emit-line-spec =
     (λ c. search needs)  -- enum-known-kind
     (λ c κs. search needs)  -- span-bytes-requires
     emit-pseudo-requires
-    (λ c. search needs)  -- enum-told-2
-    put-ordinary-requires-2
     (λ c. search needs)  -- same-length
     returns
     (λ c. search needs)  -- same-length-2
-    returns-2
-    (λ c. search needs)  -- same-length-3
-    returns-3)
+    returns-2)

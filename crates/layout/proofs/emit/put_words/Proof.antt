@@ -2,7 +2,7 @@
 use Prim.Native.Nat.{_-_}
 use mathlib.Core.Path.{_≡_, refl, sym, ap, _∙_}
 use lib.ListN.{length, length-set}
-use Rattle.encoder.specs.code.Meanings.{answerOf}
+use Rattle.encoder.specs.code.Meanings.{encodedResult}
 use Rattle.layout.proofs.EmitLaws.{Putting, put-none, put-more, put-stops, put-all}
 use borrow.Author.Needs.{needs}
 use Rattle.layout.proofs.emit.put_words.Statement.{statement}
@@ -20,18 +20,18 @@ loop-holds c = (refl, put-none _ _ _)
 loop-again : tie.Need-loop-again Inv-loop μ-loop
 loop-again c =
     let at = c .before .before .before .before .before in
-    let word = sym (c .before .before .before .word-at .ensures) ∙ ap answerOf (c .before .word .given .1) in
+    let word = sym (c .before .before .before .word-at .ensures) ∙ ap encodedResult (c .before .word .given .1) in
     (simp length-set (at .loop .inv .0), put-more _ _ _ _ _ (at .loop .inv .1) _ (search needs) (search needs) word)
 
 returns : tie.Need-returns Inv-loop μ-loop
 returns c =
     let at = c .before .before .before .before in
-    put-stops _ _ _ _ _ (at .loop .inv .1) _ (c .before .before .before .loop-test .taken) (sym (c .before .before .word-at .ensures) ∙ ap answerOf (c .enum-told .given .1))
+    put-stops _ _ _ _ _ (at .loop .inv .1) _ (c .before .before .before .loop-test .taken) (sym (c .before .before .word-at .ensures) ∙ ap encodedResult (c .enum-told .given .1))
 
 returns-2 : tie.Need-returns-2 Inv-loop μ-loop
 returns-2 c =
     let at = c .before .before .before .before in
-    put-stops _ _ _ _ _ (at .loop .inv .1) _ (c .before .before .before .loop-test .taken) (sym (c .before .before .word-at .ensures) ∙ ap answerOf (c .enum-told2 .given .1))
+    put-stops _ _ _ _ _ (at .loop .inv .1) _ (c .before .before .before .loop-test .taken) (sym (c .before .before .word-at .ensures) ∙ ap encodedResult (c .enum-told2 .given .1))
 
 returns-3 : tie.Need-returns-3 Inv-loop μ-loop
 returns-3 c = put-all _ _ _ _ _ (c .before .loop .inv .1) (c .loop-test .left)

@@ -2,7 +2,7 @@
 use mathlib.Core.Path.{ap, _∙_}
 use mir.Syntax.{w32}
 use mir.Facts.{toZ-ofZ}
-use Rattle.encoder.specs.Split.{signed32}
+use Rattle.numbers.specs.Ints.{signedOf}
 use borrow.Author.Needs.{needs}
 use Rattle.layout.proofs.expansions.load_pair.Statement.{statement}
 use Rattle.layout.proofs.expansions.load_pair.Tie as tie
@@ -12,9 +12,9 @@ returns c =
     let lower = c .before in
     let upper = lower .before .before in
     rw (
-      toZ-ofZ {w = w32} (search needs) ∙ lower .signed-of2 .ensures ∙ ap signed32 (lower .before .lower-part .ensures),
+      toZ-ofZ {w = w32} (search needs) ∙ lower .i32-of-bits2 .ensures ∙ ap (signedOf 32) (lower .before .lower-part .ensures),
       upper .lui .ensures,
-      toZ-ofZ {w = w32} (search needs) ∙ upper .before .signed-of .ensures ∙ ap signed32 (upper .before .before .upper-part .ensures),
+      toZ-ofZ {w = w32} (search needs) ∙ upper .before .i32-of-bits .ensures ∙ ap (signedOf 32) (upper .before .before .upper-part .ensures),
     )
     at (c .addi .ensures)
 
@@ -23,10 +23,10 @@ load-pair-spec =
     tie.close
     (tie.spec
     (λ c κs. search needs)  -- upper-part-requires
-    (λ c κs. search needs)  -- signed-of-requires
+    (λ c κs. search needs)  -- i32-of-bits-requires
     (λ c κs. search needs)  -- lui-requires
     (λ c. search needs)  -- add-addi
     (λ c κs. search needs)  -- lower-part-requires
-    (λ c κs. search needs)  -- signed-of-requires-2
+    (λ c κs. search needs)  -- i32-of-bits-requires-2
     (λ c κs. search needs)  -- addi-requires
     returns)

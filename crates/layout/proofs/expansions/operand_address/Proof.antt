@@ -1,7 +1,8 @@
 -- `expansions::operand_address`: an operand without white space is itself what is looked up.
 use denote.Ref.{now}
 use mathlib.Core.Path.{sym, _∙_}
-use Rattle.layout.proofs.ExpansionLaws.{unspaced}
+use Rattle.numbers.proofs.SpacedNumbers.{spaced-plain}
+use Rattle.layout.proofs.ExpansionLaws.{no-space}
 use borrow.Author.Needs.{needs}
 use Rattle.layout.proofs.expansions.operand_address.Statement.{statement}
 use Rattle.layout.proofs.expansions.operand_address.Tie as tie
@@ -9,7 +10,8 @@ use Rattle.layout.proofs.expansions.operand_address.Tie as tie
 returns : tie.Need-returns
 returns c =
     let a = c .before .before .before .before .before .before .before .args in
-    λ base σ placed. rw (unspaced (now (a .operand)) (sym (c .before .before .word-len .ensures) ∙ c .before .if1 .taken)) (c .label-address .ensures base σ placed)
+    let word = sym (c .before .before .word-len .ensures) ∙ c .before .if1 .taken in
+    λ base σ placed. rw (spaced-plain (now (a .operand)) (no-space (now (a .operand)) word)) (c .label-address .ensures base σ placed)
 
 pub operand-address-spec : {M : Type 1} → statement M
 operand-address-spec =

@@ -5,7 +5,7 @@ use mir.Syntax.{w32, w64}
 use mir.Val.{Fits, SFits}
 use mir.Facts.{toZ-ofZ, toZ-pos}
 use native.Mathlib.Omega.{arith}
-use Rattle.layout.specs.code.Placed.{addressOf}
+use Rattle.layout.specs.code.Placed.{addressFound}
 use Rattle.layout.specs.code.Names.{valueOf}
 use Rattle.layout.proofs.AddressLaws.{placed-indexed}
 use Rattle.layout.proofs.ScopeLaws.{look-equate, look-label, look-none}
@@ -34,12 +34,12 @@ returns-2 c =
     λ names n.
     ap (λ z. some z) (toZ-pos w64 {n = a .0 .0} (omega (arith, small .fits)))
     ∙ look-label names _ _ (ap valueOf (sym (c .before .before .before .before .enum-told .given .1)) ∙ c .before .before .before .before .before .before .constant .ensures (names .known) (n .equates))
-    (ap addressOf (sym (a .1)) ∙ c .before .before .before .label-address .ensures (names .base) (names .state) (n .labels))
+    (ap addressFound (sym (a .1)) ∙ c .before .before .before .label-address .ensures (names .base) (names .state) (n .labels))
 
 returns-3 : tie.Need-returns-3
 returns-3 c =
     λ names n. look-none names _ (ap valueOf (sym (c .before .before .before .enum-told .given .1)) ∙ c .before .before .before .before .before .constant .ensures (names .known) (n .equates))
-    (ap addressOf (sym (c .enum-told2 .given .1)) ∙ c .before .before .label-address .ensures (names .base) (names .state) (n .labels))
+    (ap addressFound (sym (c .enum-told2 .given .1)) ∙ c .before .before .label-address .ensures (names .base) (names .state) (n .labels))
 
 pub name-value-spec : {M : Type 1} → statement M
 name-value-spec =

@@ -5,14 +5,14 @@ use native.Mathlib.Omega.{arith}
 use denote.Ref.{now}
 use Rattle.layout.specs.code.Index.{buckets}
 use Rattle.layout.specs.code.Tables.{labelNames}
-use Rattle.layout.proofs.IndexLaws.{bucket-below, Walk, walk-first, walk-less, walk-next, walk-hit, walk-miss}
+use Rattle.layout.proofs.IndexLaws.{bucket-below, BucketWalk, walk-first, walk-less, walk-next, walk-hit, walk-miss}
 use Rattle.layout.proofs.LabelTables.{names-size, name-listed}
 use borrow.Author.Needs.{needs}
 use Rattle.layout.proofs.labels.find_in.Statement.{statement}
 use Rattle.layout.proofs.labels.find_in.Tie as tie
 
 abbrev Inv-loop : tie.InvT-loop
-Inv-loop text labels index count name bucket entry₀ entry = Walk (labelNames text labels 0 count) name entry
+Inv-loop text labels index count name bucket entry₀ entry = BucketWalk (labelNames text labels 0 count) name entry
 
 abbrev μ-loop : tie.MeasureT-loop
 μ-loop text labels index count name bucket entry₀ entry = entry

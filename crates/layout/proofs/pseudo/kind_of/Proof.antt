@@ -5,7 +5,7 @@ use borrow.Author.Needs.{needs}
 use denote.Ref.{now}
 use Rattle.numbers.specs.code.Spans.{spanned}
 use Rattle.layout.specs.Pseudos.{Item, spellings}
-use Rattle.layout.specs.code.Kinds.{beginsAsPseudo, kindCode}
+use Rattle.layout.specs.code.Kinds.{textLineCode}
 use Rattle.layout.proofs.PseudoLaws.{spellings-begun, other-first}
 use Rattle.layout.proofs.pseudo.kind_of.Statement.{statement}
 use Rattle.layout.proofs.pseudo.kind_of.Tie as tie
@@ -15,7 +15,7 @@ returns c =
     let d = c .before .before in
     let a = d .before .before .args in
     let e = rw (d .span-bytes .ensures) at (sym (c .before .begins-as-pseudo .ensures) ∙ not-true _ (c .if1 .taken)) in
-    sym (ap (λ (i : Item). kindCode i (a .source)) (other-first spellings (spanned (now (a .text)) (a .source)) spellings-begun e))
+    sym (ap (λ (i : Item). textLineCode i (a .source)) (other-first spellings (spanned (now (a .text)) (a .source)) spellings-begun e))
 
 pub kind-of-spec : {M : Type 1} → statement M
 kind-of-spec =

@@ -8,7 +8,7 @@ use Rattle.numbers.specs.code.Spans.{spanned}
 use Rattle.numbers.specs.code.Tables.{rows, indexIn}
 use Rattle.numbers.proofs.Rows.{before-word}
 use Rattle.layout.specs.Pseudos.{spellings}
-use Rattle.layout.proofs.PseudoLaws.{spellings-sound, spellings-numbered, line-plain, line-ended, line-named}
+use Rattle.layout.proofs.PseudoLaws.{spellings-sound, spellings-named, number-few, line-plain, line-ended, line-other, line-pseudo}
 use borrow.Author.Needs.{needs}
 use Rattle.layout.proofs.pseudo.listed_kind.Statement.{statement}
 use Rattle.layout.proofs.pseudo.listed_kind.Tie as tie
@@ -44,7 +44,26 @@ returns-3 c =
     let at = tested .before .before .before in
     let o = at .before .before .before .before .before in
     let goes-on = rw (at .before .before .text-before .ensures, at .before .before .before .span-bytes .ensures) at (tested .if2 .left) in
-    line-named (o .args .source) spellings _ _ (o .pre) spellings-sound _ (placed at) (tested .before .before .if1 .left) goes-on spellings-numbered _ (c .kind-numbered .ensures)
+    line-other (o .args .source) spellings _ _ (o .pre) spellings-sound _ (placed at) (tested .before .before .if1 .left) goes-on spellings-named (c .if3 .taken)
+
+pseudo-numbered-requires : tie.Need-pseudo-numbered-requires
+unfolding spellings
+pseudo-numbered-requires c κs =
+    let tested = c .before .before in
+    let at = tested .before .before .before in
+    let o = at .before .before .before .before .before in
+    let few = number-few (o .args .source) spellings _ _ (o .pre) spellings-sound _ (placed at) (tested .before .before .if1 .left) in
+    (omega (arith, c .if3 .left), few)
+
+returns-4 : tie.Need-returns-4
+unfolding spellings
+returns-4 c =
+    let tested = c .before .before .before in
+    let at = tested .before .before .before in
+    let o = at .before .before .before .before .before in
+    let goes-on = rw (at .before .before .text-before .ensures, at .before .before .before .span-bytes .ensures) at (tested .if2 .left) in
+    line-pseudo (o .args .source) spellings _ _ (o .pre) spellings-sound _ (placed at) (tested .before .before .if1 .left) goes-on (c .before .if3 .left)
+    _ (c .pseudo-numbered .ensures)
 
 pub listed-kind-spec : {M : Type 1} → statement M
 listed-kind-spec =
@@ -58,7 +77,8 @@ listed-kind-spec =
     (λ c. search needs)  -- add-if2
     (λ c. search needs)  -- element-copy-out-if2
     returns-2
-    (λ c. search needs)  -- add-kind-numbered
-    (λ c. search needs)  -- element-copy-out-kind-numbered
-    (λ c κs. search needs)  -- kind-numbered-requires
-    returns-3)
+    (λ c. search needs)  -- add-kind
+    (λ c. search needs)  -- element-copy-out-kind
+    returns-3
+    pseudo-numbered-requires
+    returns-4)

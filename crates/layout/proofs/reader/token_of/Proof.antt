@@ -28,7 +28,7 @@ use denote.Triple.Walked.{says}
 use Rattle.layout.specs.declared.reader.ExprReader.{ExprReader}
 use Rattle.layout.specs.declared.tokens.TokenAt.{TokenAt}
 use Rattle.layout.specs.code.Tokens.{TokenFrom}
-use Rattle.layout.proofs.Walks.{Call, Entry, ends, Walk, framed, meets, number, local, leave, calls}
+use Rattle.layout.proofs.Walks.{Call, Entry, ends, Walk, framed, meets, number-owned, local, leave, calls}
 use Rattle.layout.proofs.reader.ExprReader as T
 use Rattle.layout.proofs.reader.ExprReader.Laws as T′
 use Rattle.layout.proofs.tokens.TokenAt as R
@@ -108,7 +108,7 @@ module _ {M : Type 1} (𝓤 : URA M) (H : Heap 𝓤) (𝓜 : Model 𝓤 H) (𝓖
         (and-then ! (local ! 9 refl) (and-then ! (local ! 5 refl) (no-more !))) (λ u₁ r₁ e₁ is₁.
         -- its reader is stored in _5, and `moved` is lent it and the place: [what the reader owns; the lifetime's token; room for _5; …]
         land ! (from ! (stop !)) (init ! 2 refl (LL.lawful (T.the-type α) (T′.the-laws α) 𝓤 H (𝓖 .A) W .typed r₁ _ is₁ .0)) $
-        nothing ! $ number ! n ok $ fjoin ! $ move ! (1 ∷ []) $ fjoin ! $ move ! (1 ∷ []) $
+        nothing ! $ number-owned ! n ok $ fjoin ! $ move ! (1 ∷ []) $ fjoin ! $ move ! (1 ∷ []) $
         calls ! (framed 𝓤 H 𝓜 𝓖 𝓡 code.env) moved.ended moved-clauses moved-known (((κ, tt), (q, tt), tt, (r₁, (n, tt)), (u₁ ∷ [], (vint w64 n ∷ [], tt))), tt) refl (λ r. r ≡ further n r₁) (λ r w. refl)
         (and-then ! (local ! 1 refl) (and-then ! (local ! 7 refl) (no-more !))) (λ u₂ r₂ e₂ is₂.
         -- the reader of that is stored in _4, and `next_token` is lent it

@@ -7,7 +7,7 @@ use native.Mathlib.Omega.{arith}
 use mathlib.Core.Path.{refl}
 use mathlib.Core.List.{[], _∷_}
 use Rattle.numbers.specs.Ints.{bits}
-use Rattle.layout.specs.Bytes.{le}
+use Rattle.layout.specs.Bytes.{littleEndian}
 use Rattle.layout.specs.Limits.{equateSize}
 use Rattle.layout.specs.Records.{four, eight, fieldBytes}
 use Rattle.layout.proofs.TableLaws.{put-first, put-field}
@@ -16,7 +16,7 @@ use Rattle.layout.proofs.records.put_equate.Statement.{statement}
 use Rattle.layout.proofs.records.put_equate.Tie as tie
 
 returns : tie.Need-returns
-unfolding fieldBytes le
+unfolding fieldBytes littleEndian
 returns c =
     let fifth = c .before .before in
     let fourth = fifth .before .before .before .before in

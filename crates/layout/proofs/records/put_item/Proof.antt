@@ -2,7 +2,7 @@ use Prim.Native.Nat.{_+_, _*_}
 use native.Mathlib.Omega.{arith}
 use mathlib.Core.Path.{refl}
 use mathlib.Core.List.{[], _∷_}
-use Rattle.layout.specs.Bytes.{le}
+use Rattle.layout.specs.Bytes.{littleEndian}
 use Rattle.layout.specs.Records.{four, fieldBytes}
 use Rattle.layout.specs.Limits.{itemSize}
 use Rattle.layout.proofs.TableLaws.{put-first, put-field}
@@ -11,7 +11,7 @@ use Rattle.layout.proofs.records.put_item.Statement.{statement}
 use Rattle.layout.proofs.records.put_item.Tie as tie
 
 returns : tie.Need-returns
-unfolding fieldBytes le
+unfolding fieldBytes littleEndian
 returns c =
     let sixth = c .before .before in
     let fifth = sixth .before .before .before .before in

@@ -2,7 +2,7 @@ use Prim.Native.Nat.{_+_, _*_}
 use native.Mathlib.Omega.{arith}
 use mathlib.Core.Path.{refl}
 use mathlib.Core.List.{[], _∷_}
-use Rattle.layout.specs.Bytes.{le}
+use Rattle.layout.specs.Bytes.{littleEndian}
 use Rattle.layout.specs.Records.{four, fieldBytes}
 use Rattle.layout.specs.Limits.{labelSize}
 use Rattle.layout.proofs.TableLaws.{put-first, put-field}
@@ -11,7 +11,7 @@ use Rattle.layout.proofs.records.put_label.Statement.{statement}
 use Rattle.layout.proofs.records.put_label.Tie as tie
 
 returns : tie.Need-returns
-unfolding fieldBytes le
+unfolding fieldBytes littleEndian
 returns c =
     let fourth = c .before .before in
     let third = fourth .before .before .before .before in

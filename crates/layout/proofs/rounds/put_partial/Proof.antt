@@ -10,10 +10,10 @@ use borrow.Author.Needs.{needs}
 use Rattle.layout.proofs.rounds.put_partial.Statement.{statement}
 use Rattle.layout.proofs.rounds.put_partial.Tie as tie
 
-slice-write-waits-2 : tie.Need-slice-write-waits-2
-slice-write-waits-2 c =
+slice-write-partials-2 : tie.Need-slice-write-partials-2
+slice-write-partials-2 c =
     let s = c .before .before .before in
-    omega (arith, s .pre, length-set (s .args .waits .now) (s .args .k * 2) (c .bits-of-i64 .result))
+    omega (arith, s .pre, length-set (s .args .partials .now) (s .args .k * 2) (c .bits-of-i64 .result))
 
 returns : tie.Need-returns
 returns c =
@@ -26,10 +26,10 @@ put-partial-spec =
     (tie.spec
     (λ c. search needs)  -- mul-row
     (λ c κs. search needs)  -- bits-of-i64-requires
-    (λ c. search needs)  -- mul-waits
-    (λ c. search needs)  -- slice-write-waits
-    (λ c. search needs)  -- add-waits
-    (λ c. search needs)  -- mul-waits-2
-    slice-write-waits-2
+    (λ c. search needs)  -- mul-partials
+    (λ c. search needs)  -- slice-write-partials
+    (λ c. search needs)  -- add-partials
+    (λ c. search needs)  -- mul-partials-2
+    slice-write-partials-2
     (λ c. search needs)  -- same-length
     returns)

@@ -16,7 +16,7 @@ use Rattle.numbers.proofs.Integers.{fit-some}
 use Rattle.numbers.proofs.Readings.{fit-in64}
 use Rattle.layout.specs.Bytes.{put}
 use Rattle.layout.specs.Limits.{equateSize}
-use Rattle.layout.specs.Records.{Field, fieldBytes}
+use Rattle.layout.specs.Records.{RecordField, fieldBytes}
 use Rattle.layout.specs.State.{State}
 use Rattle.layout.specs.code.Terms.{evaluatedOf}
 use Rattle.layout.specs.code.Resolves.{RoundsStand}
@@ -29,24 +29,24 @@ use Rattle.layout.proofs.rounds.resolve.Statement.{statement}
 use Rattle.layout.proofs.rounds.resolve.Tie as tie
 
 abbrev Inv-loop : tie.InvT-loop
-Inv-loop text labels labelIndex labelCount starts equates₀ equateIndex count exprs waits₀ evaluations₀ pending₀ round refused₀ number₀ line₀ before k₀ equates waits evaluations pending refused number line k =
+Inv-loop text labels labelIndex labelCount starts equates₀ equateIndex count exprs partials₀ evaluations₀ pending₀ round refused₀ number₀ line₀ before k₀ equates partials evaluations pending refused number line k =
     (refused ≡ refused₀)
     × ((base : ℕ) (σ : State) (bytes places : ℕ) → Standing (frameOf text equateIndex count base σ bytes places) labels labelIndex labelCount starts exprs
-    → Walking (frameOf text equateIndex count base σ bytes places) round before equates₀ waits₀ evaluations₀ pending₀ k₀
-    → Walking (frameOf text equateIndex count base σ bytes places) round before equates waits evaluations pending k)
+    → Walking (frameOf text equateIndex count base σ bytes places) round before equates₀ partials₀ evaluations₀ pending₀ k₀
+    → Walking (frameOf text equateIndex count base σ bytes places) round before equates partials evaluations pending k)
 
 abbrev μ-loop : tie.MeasureT-loop
-μ-loop text labels labelIndex labelCount starts equates₀ equateIndex count exprs waits₀ evaluations₀ pending₀ round refused₀ number₀ line₀ before k₀ equates waits evaluations pending refused number line k =
+μ-loop text labels labelIndex labelCount starts equates₀ equateIndex count exprs partials₀ evaluations₀ pending₀ round refused₀ number₀ line₀ before k₀ equates partials evaluations pending refused number line k =
     count - k
 
 abbrev Inv-rounds : tie.InvT-rounds
-Inv-rounds text labels labelIndex labelCount starts equates₀ equateIndex count exprs waits₀ evaluations₀ pending₀ round₀ refused₀ number₀ line₀ equates waits evaluations pending round refused number line =
+Inv-rounds text labels labelIndex labelCount starts equates₀ equateIndex count exprs partials₀ evaluations₀ pending₀ round₀ refused₀ number₀ line₀ equates partials evaluations pending round refused number line =
     (refused ≡ false)
-    × ((base : ℕ) (σ : State) → RoundsStand text labels labelIndex labelCount starts equates₀ equateIndex count exprs waits₀ base σ
-    → Rounding (frameOf text equateIndex count base σ (length equates₀) (length waits₀)) equates waits evaluations pending round)
+    × ((base : ℕ) (σ : State) → RoundsStand text labels labelIndex labelCount starts equates₀ equateIndex count exprs partials₀ base σ
+    → Rounding (frameOf text equateIndex count base σ (length equates₀) (length partials₀)) equates partials evaluations pending round)
 
 abbrev μ-rounds : tie.MeasureT-rounds
-μ-rounds text labels labelIndex labelCount starts equates₀ equateIndex count exprs waits₀ evaluations₀ pending₀ round₀ refused₀ number₀ line₀ equates waits evaluations pending round refused number line =
+μ-rounds text labels labelIndex labelCount starts equates₀ equateIndex count exprs partials₀ evaluations₀ pending₀ round₀ refused₀ number₀ line₀ equates partials evaluations pending round refused number line =
     pending
 
 rounds-holds : tie.Need-rounds-holds Inv-loop μ-loop Inv-rounds μ-rounds
@@ -63,8 +63,8 @@ loop-holds c = (refl, λ base σ bytes places s m. m)
 
 -- the equate whose turn it is, of the equates that the buffers stood for at the start
 here : (d : tie.In-loop Inv-loop μ-loop Inv-rounds μ-rounds)
-    → Here (frameOf (d .before .before .before .before .before .before .before .before .before .before .before .args .text .now) (d .before .before .before .before .before .before .before .before .before .before .before .args .equate-index .now) (d .before .before .before .before .before .before .before .before .before .before .before .args .count) (d .before .before .before .before .before .before .before .before .before .before .before .pre .base) (d .before .before .before .before .before .before .before .before .before .before .before .pre .state) (length (d .before .before .before .before .before .before .before .before .before .before .before .args .equates .now)) (length (d .before .before .before .before .before .before .before .before .before .before .before .args .waits .now)))
-    (d .before .before .before .rounds .round + 1) (d .before .before .before .rounds .pending) (d .before .loop .equates) (d .before .loop .waits) (d .before .loop .evaluations) (d .before .loop .pending) (d .before .loop .k)
+    → Here (frameOf (d .before .before .before .before .before .before .before .before .before .before .before .args .text .now) (d .before .before .before .before .before .before .before .before .before .before .before .args .equate-index .now) (d .before .before .before .before .before .before .before .before .before .before .before .args .count) (d .before .before .before .before .before .before .before .before .before .before .before .pre .base) (d .before .before .before .before .before .before .before .before .before .before .before .pre .state) (length (d .before .before .before .before .before .before .before .before .before .before .before .args .equates .now)) (length (d .before .before .before .before .before .before .before .before .before .before .before .args .partials .now)))
+    (d .before .before .before .rounds .round + 1) (d .before .before .before .rounds .pending) (d .before .loop .equates) (d .before .loop .partials) (d .before .loop .evaluations) (d .before .loop .pending) (d .before .loop .k)
 here d =
     let s = d .before .before .before .before .before .before .before .before .before .before .before in
     let stands = s .pre .stands in
@@ -126,7 +126,7 @@ loop-again c =
           let fit : SFits w64 (w .6 .given .0 .0) = search needs in
           rw (w .13, w .14 ∙ g .counted)
           (next-found _ _ _ _ _ _ _ _ h p (w .6 .given .0 .0) (ap evaluatedOf (sym (w .6 .given .1)) ∙ t .answers) _ (ap length (w .12) ∙ w .9 .kept .0)
-          (w .12 ∙ (rw (toZ-ofZ fit) at (w .9 .ensures)) ∙ ap (λ (fs : List Field). put (l .k * equateSize) (fieldBytes fs) (l .equates)) (record-here _ s _ _ _ _ _ _ _ h (w .6 .given .0 .0)))
+          (w .12 ∙ (rw (toZ-ofZ fit) at (w .9 .ensures)) ∙ ap (λ (fs : List RecordField). put (l .k * equateSize) (fieldBytes fs) (l .equates)) (record-here _ s _ _ _ _ _ _ _ h (w .6 .given .0 .0)))
           _ (omega (arith, w .15, some-pending _ _ _ _ _ _ _ _ h p))))
           (⊎-elim
           (λ w.
@@ -144,9 +144,9 @@ loop-again c =
 
 -- a round's end, of whatever the buffers stood for at the start
 ended : (d : tie.After-loop Inv-loop μ-loop Inv-rounds μ-rounds) (base : ℕ) (σ : State)
-    → RoundsStand (d .before .before .before .before .before .before .before .before .before .before .before .args .text .now) (d .before .before .before .before .before .before .before .before .before .before .before .args .labels .now) (d .before .before .before .before .before .before .before .before .before .before .before .args .label-index .now) (d .before .before .before .before .before .before .before .before .before .before .before .args .label-count) (d .before .before .before .before .before .before .before .before .before .before .before .args .starts) (d .before .before .before .before .before .before .before .before .before .before .before .args .equates .now) (d .before .before .before .before .before .before .before .before .before .before .before .args .equate-index .now) (d .before .before .before .before .before .before .before .before .before .before .before .args .count) (d .before .before .before .before .before .before .before .before .before .before .before .args .exprs .now) (d .before .before .before .before .before .before .before .before .before .before .before .args .waits .now) base σ
-    → Walking (frameOf (d .before .before .before .before .before .before .before .before .before .before .before .args .text .now) (d .before .before .before .before .before .before .before .before .before .before .before .args .equate-index .now) (d .before .before .before .before .before .before .before .before .before .before .before .args .count) base σ (length (d .before .before .before .before .before .before .before .before .before .before .before .args .equates .now)) (length (d .before .before .before .before .before .before .before .before .before .before .before .args .waits .now)))
-    (d .before .before .before .rounds .round + 1) (d .before .before .before .rounds .pending) (d .before .loop .equates) (d .before .loop .waits) (d .before .loop .evaluations) (d .before .loop .pending) (d .before .loop .k)
+    → RoundsStand (d .before .before .before .before .before .before .before .before .before .before .before .args .text .now) (d .before .before .before .before .before .before .before .before .before .before .before .args .labels .now) (d .before .before .before .before .before .before .before .before .before .before .before .args .label-index .now) (d .before .before .before .before .before .before .before .before .before .before .before .args .label-count) (d .before .before .before .before .before .before .before .before .before .before .before .args .starts) (d .before .before .before .before .before .before .before .before .before .before .before .args .equates .now) (d .before .before .before .before .before .before .before .before .before .before .before .args .equate-index .now) (d .before .before .before .before .before .before .before .before .before .before .before .args .count) (d .before .before .before .before .before .before .before .before .before .before .before .args .exprs .now) (d .before .before .before .before .before .before .before .before .before .before .before .args .partials .now) base σ
+    → Walking (frameOf (d .before .before .before .before .before .before .before .before .before .before .before .args .text .now) (d .before .before .before .before .before .before .before .before .before .before .before .args .equate-index .now) (d .before .before .before .before .before .before .before .before .before .before .before .args .count) base σ (length (d .before .before .before .before .before .before .before .before .before .before .before .args .equates .now)) (length (d .before .before .before .before .before .before .before .before .before .before .before .args .partials .now)))
+    (d .before .before .before .rounds .round + 1) (d .before .before .before .rounds .pending) (d .before .loop .equates) (d .before .loop .partials) (d .before .loop .evaluations) (d .before .loop .pending) (d .before .loop .k)
 ended d base σ s =
     d .before .loop .inv .1 _ _ _ _ (standing s) (round-begins _ _ _ _ _ _ (d .before .before .before .rounds .inv .1 base σ s) (d .before .before .rounds-test .taken))
 
@@ -169,9 +169,9 @@ rounds-again c =
 
 -- where the loops were left
 over : (c : tie.Left-rounds Inv-loop μ-loop Inv-rounds μ-rounds) (base : ℕ) (σ : State)
-    → RoundsStand (c .before .before .before .before .before .before .before .before .before .args .text .now) (c .before .before .before .before .before .before .before .before .before .args .labels .now) (c .before .before .before .before .before .before .before .before .before .args .label-index .now) (c .before .before .before .before .before .before .before .before .before .args .label-count) (c .before .before .before .before .before .before .before .before .before .args .starts) (c .before .before .before .before .before .before .before .before .before .args .equates .now) (c .before .before .before .before .before .before .before .before .before .args .equate-index .now) (c .before .before .before .before .before .before .before .before .before .args .count) (c .before .before .before .before .before .before .before .before .before .args .exprs .now) (c .before .before .before .before .before .before .before .before .before .args .waits .now) base σ
-    → Over (frameOf (c .before .before .before .before .before .before .before .before .before .args .text .now) (c .before .before .before .before .before .before .before .before .before .args .equate-index .now) (c .before .before .before .before .before .before .before .before .before .args .count) base σ (length (c .before .before .before .before .before .before .before .before .before .args .equates .now)) (length (c .before .before .before .before .before .before .before .before .before .args .waits .now)))
-    (c .rounds-test .equates) (c .rounds-test .waits) (c .rounds-test .evaluations) (c .rounds-test .refused) (c .rounds-test .number) (c .rounds-test .line)
+    → RoundsStand (c .before .before .before .before .before .before .before .before .before .args .text .now) (c .before .before .before .before .before .before .before .before .before .args .labels .now) (c .before .before .before .before .before .before .before .before .before .args .label-index .now) (c .before .before .before .before .before .before .before .before .before .args .label-count) (c .before .before .before .before .before .before .before .before .before .args .starts) (c .before .before .before .before .before .before .before .before .before .args .equates .now) (c .before .before .before .before .before .before .before .before .before .args .equate-index .now) (c .before .before .before .before .before .before .before .before .before .args .count) (c .before .before .before .before .before .before .before .before .before .args .exprs .now) (c .before .before .before .before .before .before .before .before .before .args .partials .now) base σ
+    → Over (frameOf (c .before .before .before .before .before .before .before .before .before .args .text .now) (c .before .before .before .before .before .before .before .before .before .args .equate-index .now) (c .before .before .before .before .before .before .before .before .before .args .count) base σ (length (c .before .before .before .before .before .before .before .before .before .args .equates .now)) (length (c .before .before .before .before .before .before .before .before .before .args .partials .now)))
+    (c .rounds-test .equates) (c .rounds-test .partials) (c .rounds-test .evaluations) (c .rounds-test .refused) (c .rounds-test .number) (c .rounds-test .line)
 over c base σ s =
     let o = c .before .rounds in
     ⊎-elim
@@ -204,7 +204,7 @@ same-length-2 c =
     over (c .before) (s .pre .base) (s .pre .state) (s .pre .stands) .room
 
 returns : tie.Need-returns Inv-loop μ-loop Inv-rounds μ-rounds
-returns c = λ base σ s. rw (over (c .before) base σ s .stops (c .if3 .taken)) (refl, refl)
+returns c = λ s. rw (over (c .before) (s .base) (s .state) (s .stands) .stops (c .if3 .taken)) refl
 
 same-length-3 : tie.Need-same-length-3 Inv-loop μ-loop Inv-rounds μ-rounds
 same-length-3 c =
@@ -218,9 +218,9 @@ same-length-4 c =
 
 returns-2 : tie.Need-returns-2 Inv-loop μ-loop Inv-rounds μ-rounds
 returns-2 c =
-    λ base σ s.
-    let y = over (c .before) base σ s .ends (c .if3 .left) in
-    rw (y .1) (refl, y .2)
+    λ s.
+    let y = over (c .before) (s .base) (s .state) (s .stands) .ends (c .if3 .left) in
+    rw (y .1) (record { evaluations = refl; equates = y .2 })
 
 pub resolve-spec : {M : Type 1} → statement M
 resolve-spec =

@@ -3,7 +3,7 @@ use mathlib.Core.Path.{ap}
 use native.Mathlib.Omega.{arith}
 use Rattle.layout.specs.code.Terms.{sumOn}
 use Rattle.layout.proofs.KnownLaws.{equates-lent}
-use Rattle.layout.proofs.TurnTables.{expr-lent, expr-coded, expr-address, value-told, evaluated-told, again-known, again-summed}
+use Rattle.layout.proofs.TurnTables.{expr-lent, expr-coded, expr-address, value-told, evaluated-told, gives-known, again-summed}
 use borrow.Author.Needs.{needs}
 use Rattle.layout.proofs.rounds.turn_again.Statement.{statement}
 use Rattle.layout.proofs.rounds.turn_again.Tie as tie
@@ -38,7 +38,7 @@ returns c =
     let k = c .before in
     let s = c .before .before .before .before .before .before .before .before .before in
     λ names d.
-    again-known names _ (s .args .from) (d .waited (λ z. omega (arith, z)))
+    gives-known names _ (d .waited (λ z. omega (arith, z)) .no-label)
     (value-told (d .stand) (s .args .k) (s .pre .1) _ (k .before .equate-name .ensures) _ _ (k .is-constant .ensures (names .known) (d .stand .names .equates)) (c .if1 .taken))
 
 returns-2 : tie.Need-returns-2

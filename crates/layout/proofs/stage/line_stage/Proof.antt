@@ -53,7 +53,7 @@ returns c =
     let d = step .before .before .before .before .before .before .before .before .before .before .before .before in
     let l = d .before .before in
     let e = d .cut-line .ensures in
-    rw (turn-stop _ _ _ _ _ _ (l .loop .inv .0) _ (d .before .loop-test .taken) (e .0) (e .1) _ _ (step .step-line .ensures) _ (ap stepOf (c .before .n .given .1))) (refl, refl)
+    rw (turn-stop _ _ _ _ _ _ (l .loop .inv .0) _ (d .before .loop-test .taken) (e .0) (e .1) _ _ (step .step-line .ensures) _ (ap stepOf (c .before .n .given .1))) refl
 
 add-at : tie.Need-add-at Inv-loop μ-loop
 add-at c = omega (arith, cut-end _ _ (c .before .before .cut-line .ensures .1), c .before .before .before .before .before .before .before .before .before .before .before .before .before .pre .0)

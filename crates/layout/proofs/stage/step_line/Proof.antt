@@ -3,7 +3,7 @@ use mathlib.Core.Path.{ap}
 use denote.Ref.{now}
 use Rattle.layout.specs.code.Stands.{countOf, restOf}
 use Rattle.layout.proofs.CutLaws.{cut-order, cut-end, cut-marked, cut-says}
-use Rattle.layout.proofs.StageLaws.{words-few, place-fits, line-label-within, line-says-within, label-stopped, rest-stopped, line-goes}
+use Rattle.layout.proofs.StageLaws.{words-within, place-fits, line-label-within, line-says-within, label-stopped, rest-stopped, line-goes}
 use borrow.Author.Needs.{needs}
 use Rattle.layout.proofs.stage.step_line.Statement.{statement}
 use Rattle.layout.proofs.stage.step_line.Tie as tie
@@ -12,7 +12,7 @@ line-of-requires : tie.Need-line-of-requires
 line-of-requires c κs = let s = c .before .before .before .before .before .before .before .before .before .before in (s .pre .3, cut-marked _ _ (s .pre .2))
 
 place-requires : tie.Need-place-requires
-place-requires c κs = words-few (c .before .before .before .before .before .before .before .before .before .before .before .before .before .pre .0 .stands .rest .own)
+place-requires c κs = words-within (c .before .before .before .before .before .before .before .before .before .before .before .before .before .pre .0 .stands .rest .own)
 
 label-step-requires : tie.Need-label-step-requires
 label-step-requires c κs =
@@ -25,8 +25,8 @@ label-step-requires c κs =
           (c .before .before .before .line-of .result) (cut-says _ _ (s .pre .2) _ _ (c .before .before .before .line-of .ensures)),
     )
 
-says-requires : tie.Need-says-requires
-says-requires c κs =
+statement-step-requires : tie.Need-statement-step-requires
+statement-step-requires c κs =
     let s = c .before .before .before .before .before .before .before .before .before .before .before .before .before .before .before .before .before .before .before .before .before .before .before .before .before .before .before in
     let a = s .args in
     let l = c .before .before .before .before .before .before .before .before .before .before .before .before .before .before .before .before in (
@@ -44,7 +44,7 @@ returns c =
     let s = b .before .before .before .before .before .before .before .before .before .before .before .before .before .before .before in
     line-goes _ _ _ _ _ _ _ _ (cut-order _ _ (s .pre .2)) (cut-end _ _ (s .pre .2)) _ (cut-says _ _ (s .pre .2) _ _ (b .before .before .before .before .line-of .ensures)) _ (b .before .place .ensures) _
     (b .label-step .ensures)
-    _ (ap countOf (m .before .before .before .before .before .before .before .count .given .1)) _ (m .says .ensures) _
+    _ (ap countOf (m .before .before .before .before .before .before .before .count .given .1)) _ (m .statement-step .ensures) _
     (ap restOf (c .before .rest2 .given .1))
 
 returns-2 : tie.Need-returns-2
@@ -54,7 +54,7 @@ returns-2 c =
     let s = b .before .before .before .before .before .before .before .before .before .before .before .before .before .before .before in
     rest-stopped _ _ _ _ _ _ _ _ (cut-order _ _ (s .pre .2)) (cut-end _ _ (s .pre .2)) _ (cut-says _ _ (s .pre .2) _ _ (b .before .before .before .before .line-of .ensures)) _ (b .before .place .ensures) _
     (b .label-step .ensures)
-    _ (ap countOf (m .before .before .before .before .before .before .before .count .given .1)) _ (m .says .ensures) _
+    _ (ap countOf (m .before .before .before .before .before .before .before .count .given .1)) _ (m .statement-step .ensures) _
     (ap restOf (c .before .n .given .1))
 
 returns-3 : tie.Need-returns-3
@@ -72,7 +72,7 @@ step-line-spec =
     place-requires
     label-step-requires
     (λ c. search needs)  -- enum-known-count
-    says-requires
+    statement-step-requires
     (λ c. search needs)  -- enum-known-rest
     (λ c. search needs)  -- enum-known-n
     (λ c. search needs)  -- enum-known-n-2

@@ -1,5 +1,4 @@
 -- `field::text_after`: where the byte stands, it stands before the end.
-use native.Mathlib.Omega.{arith}
 use Prim.Native.Nat.{_<_}
 use denote.Ref.{now}
 use lib.ListN.{length}

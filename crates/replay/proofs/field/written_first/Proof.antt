@@ -1,6 +1,5 @@
 -- `field::written_first`: the tests are those of the definition.
 use denote.Ref.{now}
-use mathlib.Core.Path.{_∙_}
 use Rattle.replay.proofs.Decoded.{first-none, first-plain, first-short, first-escaped}
 use borrow.Author.Needs.{needs}
 use Rattle.replay.proofs.field.written_first.Statement.{statement}

@@ -15,7 +15,5 @@ words-spec =
     (λ c. search needs)  -- enum-known-self
     (λ c κs. search needs)  -- span-bytes-requires
     (λ c κs. search needs)  -- pseudo-words-requires
-    (λ c. search needs)  -- enum-told-2
     (λ c. search needs)  -- returns
-    returns-2
-    (λ c. search needs))  -- returns-3
+    returns-2)

@@ -25,7 +25,7 @@ use denote.Struct.Rest.{own-shut}
 use denote.Triple.Clauses.{Clauses}
 use denote.Triple.Walked.{says}
 use Rattle.layout.specs.declared.reader.ExprReader.{ExprReader}
-use Rattle.layout.proofs.Walks.{Call, Entry, ends, Walk, meets, number, local, leave}
+use Rattle.layout.proofs.Walks.{Call, Entry, ends, Walk, meets, number-owned, local, leave}
 use Rattle.layout.proofs.reader.ExprReader as T
 use Rattle.layout.proofs.reader.ExprReader.Laws as T′
 use Rattle.layout.proofs.reader.ExprReader.new as new
@@ -64,7 +64,7 @@ module _ {M : Type 1} (𝓤 : URA M) (H : Heap 𝓤) (𝓜 : Model 𝓤 H) (𝓖
         returns ! (look ! 4 refl) $ move ! (4 ∷ 5 ∷ 2 ∷ 3 ∷ []) $ leave ! $ leave ! $ leave ! $ free0 ! $
         -- what the fields own is what the arguments own, and the facts of 0
         suffices ! _ (ends 𝓤 H (𝓖 .A) new.ended clauses call W (T′.lowered made) made (tt, (tt, tt))) $ says ! refl $ frame ! $
-        fsplit ! $ number ! 0 (lit< tt) $ move ! (1 ∷ 0 ∷ []) $ fjoin3 ! $ by ! (own-shut 𝓤 H (𝓖 .A) W (T.the-type α) (T′.the-laws α) (s, (0, (b, tt)))))))
+        fsplit ! $ number-owned ! 0 (lit< tt) $ move ! (1 ∷ 0 ∷ []) $ fjoin3 ! $ by ! (own-shut 𝓤 H (𝓖 .A) W (T.the-type α) (T′.the-laws α) (s, (0, (b, tt)))))))
 
 pub new-spec : {M : Type 1} → stated.statement M
 unfolding code.routine
