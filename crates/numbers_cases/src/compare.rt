@@ -19,12 +19,11 @@ use numbers::registers::parse_reg;
 use numbers::text::same_bytes;
 use numbers::text::same_one_spaced;
 use numbers::text::span_bytes;
+use numbers::text::statement_span;
 use numbers::text::text_before;
 use numbers::text::trim;
 use replay::field::decode;
 use replay::field::end_at;
-ghost use mathlib.Core.Path.{_≡_};
-ghost use Rattle.numbers.specs.Text.{trimmed, uncommented};
 
 fn is_no(expected: &[u8]) -> bool {
     same_bytes(expected, b"no")
@@ -133,15 +132,8 @@ fn ends_agree(place: usize, expected: &[u8], keep_empty: bool) -> bool {
     place - 1 == expected.len()
 }
 
-// A line's statement, by the definitions that the layout cuts its lines by: without its comment, trimmed.
-fn statement(line: &[u8]) -> &[u8]
-    ensures { λ r. ⌜ now r ≡ trimmed (uncommented (now (line .entry))) ⌝ }
-{
-    trim(text_before(text_before(line, b';'), b'#'))
-}
-
 fn statement_agrees(input: &[u8], expected: &[u8]) -> bool {
-    same_bytes(statement(input), expected)
+    same_bytes(span_bytes(input, statement_span(input)), expected)
 }
 
 fn range_agrees(kind: u8, input: &[u8], expected: &[u8]) -> bool {
