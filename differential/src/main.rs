@@ -5,14 +5,13 @@
 
 mod cases;
 mod encoder;
-mod gnu;
 mod numbers;
 
 use std::path::Path;
 use std::process::ExitCode;
 use std::{env, fs, io};
 
-use differential::{falcon, random};
+use differential::{falcon, gnu, random};
 use falcon::asm::assembler::assemble;
 
 const USAGE: &str = "usage: differential numbers DIR

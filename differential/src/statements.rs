@@ -28,7 +28,7 @@ pub fn statements(text: &str) -> Vec<Statement> {
 }
 
 /// The name in a line that is taken whole.
-fn section_name(line: &str) -> Option<String> {
+pub fn section_name(line: &str) -> Option<String> {
     if [".text", ".data", ".bss"].contains(&line) {
         return Some(line.to_string());
     }

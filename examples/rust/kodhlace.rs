@@ -271,7 +271,7 @@ pub fn meaning(number: u32) -> &'static str {
         6 => "this operand cannot be read as a number",
         7 => "this operand is out of range: an alignment below 1, a size below 0, or too large for the byte or half",
         8 => "this .word operand is neither a number nor a name",
-        9 => "a string needs a double quote at its start and at its end",
+        9 => "this string lacks a quote, has an unknown escape or an octal above 377, or has text beside it",
         10 => "this is no directive of the data section",
         11 => "this is no directive of the bss section",
         12 => "bss stores nothing: only room can be reserved there",

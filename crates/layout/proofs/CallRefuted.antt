@@ -1,6 +1,7 @@
 -- Whatever answers as the programs would that document 01 excludes by demand 2, "How much the layout promises", 3, does not meet the call's
--- contract; nor does an answer against demand 1: outputs or counts left after a refusal, a number that document 01 does not have or that is the
--- encoder's alone, 40 or 41 at another line than 0, a line that the text does not have.
+-- contract; nor does one that reads strings otherwise than document 02; nor does an answer against demand 1: outputs or counts left after a
+-- refusal, a number that document 01 does not have or that is the encoder's alone, 40 or 41 at another line than 0, a line that the text does
+-- not have.
 use Prim.Native.Nat.{ℕ, _≤_, _<_}
 use mathlib.Core.Path.{_≡_, refl, sym, _∙_, ap}
 use mathlib.Core.List.{List, [], _∷_}
@@ -47,6 +48,40 @@ untouched k x a e = e (simp sub-zero at (ap (λ (y : Answer). y .buffers) (a .gi
 pub all-refused : (x : Answer) → Assembled [] 0 full x → (x .number ≡ 0 → ⊥) → ⊥
 unfolding computing
 all-refused x a n = n (ap (λ (y : Answer). y .number) (a .given))
+
+-- ---- strings: document 02, W-201
+
+abbrev firstByte : Answer → ℕ
+firstByte x = getD (x .buffers .dataBytes) 0 0
+
+-- an escaped quote ends the string: `"\""` is refused then, or stores a backslash; and `"\"` is a string
+pub quote-ends : (x : Answer) → Assembled (text ".data\n.ascii \"\\\"\"") 0 full x → (firstByte x ≡ 34 → ⊥) → ⊥
+unfolding computing
+quote-ends x a n = n (ap firstByte (a .given))
+
+pub quote-closes : (x : Answer) → Assembled (text ".data\n.ascii \"\\\"") 0 full x → (x .number ≡ 9 → ⊥) → ⊥
+unfolding computing
+quote-closes x a n = n (ap (λ (y : Answer). y .number) (a .given))
+
+-- a colon in a string makes a label: by document 01 this line has one, and stores the byte 1
+pub colon-labels : (x : Answer) → Assembled (text ".data\n.ascii \": .byte 1 #\"") 0 full x → (firstByte x ≡ 58 → ⊥) → ⊥
+unfolding computing
+colon-labels x a n = n (ap firstByte (a .given))
+
+-- a comment mark in a string ends the line
+pub mark-ends : (x : Answer) → Assembled (text ".data\n.ascii \"#;\"") 0 full x → (x .number ≡ 0 → ⊥) → ⊥
+unfolding computing
+mark-ends x a n = n (ap (λ (y : Answer). y .number) (a .given))
+
+-- an octal above 377 is taken by its low eight bits
+pub octal-wraps : (x : Answer) → Assembled (text ".data\n.ascii \"\\400\"") 0 full x → (x .number ≡ 9 → ⊥) → ⊥
+unfolding computing
+octal-wraps x a n = n (ap (λ (y : Answer). y .number) (a .given))
+
+-- the rule of strings is taken for a line of another section, where a colon still makes a label
+pub text-labelled : (x : Answer) → Assembled (text ".ascii \":\"") 0 full x → (x .counts .labels ≡ 1 → ⊥) → ⊥
+unfolding computing
+text-labelled x a n = n (ap (λ (y : Answer). y .counts .labels) (a .given))
 
 -- ---- against demand 1, for every text, base and lent lengths
 

@@ -3,6 +3,7 @@ use Rattle.numbers.specs.Ints.{fit64}
 use Rattle.numbers.specs.Literals.{charLitOf, isString, unquoted, stringOf}
 use Rattle.numbers.specs.Numbers.{allDigits, valueFrom, digitsFrom, digitsOf, signedDigits, prefixed, outerSigned, numberOf, literalOf}
 use Rattle.numbers.specs.Numbers.{imm64Of, immOf}
+use Rattle.numbers.specs.Strings.{octalOf, escapeOf, charOf, decodedFrom, toQuote, nothingBeside, quotedOf, stringBytes}
 use Rattle.numbers.specs.Operands.{commaParts, operands, nonEmpty, itemOperands}
 use Rattle.numbers.specs.Registers.{abiNames, numberIn, xNumber, bareRegister, registerOf}
 use Rattle.numbers.specs.Text.{trimStart, trimEnd, trimmed, indexOf, before, uncommented, startsWith, same, oneSpaced, leading}
@@ -24,7 +25,7 @@ use Rattle.layout.specs.Layouts.{encoded, emit, foundEquates, checkBytes
 unfoldable pub computing : Unit {0}
 unfolding
     fit64 charLitOf isString unquoted stringOf allDigits valueFrom digitsFrom digitsOf signedDigits prefixed outerSigned numberOf literalOf
-    imm64Of immOf commaParts operands nonEmpty itemOperands abiNames numberIn xNumber bareRegister registerOf trimStart trimEnd trimmed
+    imm64Of immOf octalOf escapeOf charOf decodedFrom toQuote nothingBeside quotedOf stringBytes commaParts operands nonEmpty itemOperands abiNames numberIn xNumber bareRegister registerOf trimStart trimEnd trimmed
     indexOf before uncommented startsWith same oneSpaced leading littleEndian together countBefore lessBytes lines linePieces directives rowIn
     aligned allLabelBytes sectionNamed sectionOf sectionLine symbolAfter equateOf equOf assignmentOf unlabelledOf labelled parsed spellings
     itemIn isLabel recorded addLabel labelStep addEquate addItem textLine growData addLabelWord dataWrite dataLine growBss bssLine ownLine

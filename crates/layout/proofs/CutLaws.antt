@@ -2,12 +2,13 @@
 use Prim.Native.Nat.{ℕ, suc, _+_, _-_, min, _≤_, _<_}
 use mathlib.Core.Path.{_≡_, refl, sym, ap, _∙_}
 use mathlib.Core.List.{List, [], _∷_}
+use mathlib.Core.Option.{none}
 use mathlib.Core.Bool.{Bool, true, false, cond, _||_, true≢false}
 use native.Mathlib.Numerals.{add-one}
 use native.Mathlib.Omega.{arith}
 use lib.Dec.{ltb, eqb}
 use lib.ListN.{length, take, drop, length-drop}
-use lib.Seq.{take-take}
+use lib.Seq.{take-take, length-take-le}
 use borrow.Author.Tests.{eqb-true, lt-ltb, le-ltb, ltb-true, ltb-false}
 use Rattle.numbers.specs.declared.text.Span.{Span}
 use Rattle.numbers.specs.Text.{byte, isSpace, leading, leadingSpaces, trimmed, indexOf, before, uncommented}
@@ -18,15 +19,15 @@ use Rattle.layout.specs.declared.state.Section.{Section}
 use Rattle.layout.specs.declared.scan.Cut.{Cut}
 use Rattle.layout.specs.declared.line.LabelPart.the-variants as part
 use Rattle.layout.specs.declared.line.Labelled.{Labelled}
-use Rattle.layout.specs.declared.line.Statement as code
-use Rattle.layout.specs.declared.line.Line as line
 use Rattle.layout.specs.Bytes.{countBefore}
 use Rattle.layout.specs.Pieces.{Piece, piece, trimPiece, fromByte, holds, statementOf}
-use Rattle.layout.specs.Statements.{isSectionLine, unlabelledOf, parsed, lineOf}
-use Rattle.layout.specs.code.Spans.{spanOf, pieceAt, statementCode, lineCode}
-use Rattle.layout.specs.code.Cuts.{isStop, isMark, isCut, cutLine, LineCut, NoSignBefore, Parted}
+use Rattle.layout.specs.code.Spans.{spanOf, pieceAt}
+use Rattle.layout.specs.code.Cuts.{isStop, isMark, isCut, cutLine, LineCut, NoSignBefore, isBare, labelBy, restBy, Parted}
 use Rattle.layout.proofs.SpanLaws.{count-from, count-on, count-take, count-either, count-within, index-count, trim-from-back, statement-back}
-use Rattle.layout.proofs.StatementLaws.{labelled-line}
+
+cond-same : {A : Type 0} (b : Bool) (x : A) → cond b x x ≡ x
+cond-same true x = refl
+cond-same false x = refl
 
 -- ---- tests joined
 
@@ -188,14 +189,17 @@ module _ (t : List ℕ) (c : Cut) (w : LineCut t c) where
   pub cut-end : c .end ≤ length t
   cut-end = omega (arith, w .ends, w .within, index-within 10 (drop (c .at) t), length-drop (c .at) t)
 
-  cut-statement : pieceAt t (c .part) ≡ statementOf (cutLine t c)
+  pub cut-statement : pieceAt t (c .part) ≡ statementOf (cutLine t c)
   cut-statement = ap (pieceAt t) (w .statement) ∙ ap (piece (statementOf (cutLine t c) .at)) (statement-back t (c .at) (c .end))
 
   pub cut-marked : c .mark ≡ countBefore isMark (spanned t (c .part))
   cut-marked = w .marked ∙ ap (λ (p : Piece). countBefore isMark (p .bytes)) (sym cut-statement)
 
-  pub cut-says : (s : Section) (l : line.Line) → l ≡ lineCode (parsed s (pieceAt t (c .part))) → l ≡ lineCode (lineOf s (cutLine t c))
-  cut-says s l e = e ∙ ap (λ (p : Piece). lineCode (parsed s p)) cut-statement
+  pub cut-long : c .end ≡ c .at + length (cutLine t c .bytes)
+  cut-long =
+      let size : length (take (c .end - c .at) (drop (c .at) t)) ≡ c .end - c .at =
+      length-take-le (c .end - c .at) (drop (c .at) t) (omega (arith, cut-end, length-drop (c .at) t)) in
+      omega (arith, size, w .ends)
 
 -- ---- a statement in its parts
 
@@ -209,33 +213,39 @@ module _ (s : List ℕ) (n : ℕ) (e : n ≡ countBefore isMark s) where
   pub mark-colon : n ≤ indexOf (byte ":") s
   mark-colon = marks-first .0
 
--- parted at the first colon, which stands at n: there is none, or what stands before it is a label
-module _ (t : List ℕ) (q : Span) (n : ℕ) (e : n ≡ indexOf (byte ":") (spanned t q)) where
-  pub unlabelled-parts : (m : ℕ) → m ≡ countBefore isMark (spanned t q) → length (spanned t q) ≤ n
-      → Parted t (pieceAt t q) (record { label = part.Unnamed; rest = q; from = m })
-  unlabelled-parts m k h =
-      let none : holds (byte ":") (pieceAt t q) ≡ false = rw (← e) (le-ltb _ _ h) in
-      record { label = rw none refl; rest = rw none refl; from = rw none (marks-first (spanned t q) m k .1) }
+  pub marked-sign : NoSignBefore n s
+  marked-sign = marks-first .1
 
-  pub labelled-parts : (name rest : Span) → n < length (spanned t q)
-      → name ≡ spanOf (trimPiece (piece (q .start) (take n (spanned t q)))) → rest ≡ spanOf (trimPiece (fromByte (n + 1) (pieceAt t q)))
-      → Parted t (pieceAt t q) (record { label = part.Named name; rest = rest; from = 0 })
+-- parted at the first colon, which stands at n: there is none, it ends no label, or what stands before it is one
+module _ (t : List ℕ) (s : Section) (q : Span) (n : ℕ) (e : n ≡ indexOf (byte ":") (spanned t q)) where
+  abbrev there : Piece
+  there = pieceAt t q
+
+  bare-parts : (m : ℕ) → m ≡ countBefore isMark (spanned t q) → labelBy s there ≡ none → restBy s there ≡ there
+      → Parted t s there (record { label = part.Unnamed; rest = q; from = m })
+  bare-parts m k label rest = record { label = rw label refl; rest = sym rest; from = rw rest (marked-sign (spanned t q) m k) }
+
+  pub unlabelled-parts : (m : ℕ) → m ≡ countBefore isMark (spanned t q) → length (spanned t q) ≤ n
+      → Parted t s there (record { label = part.Unnamed; rest = q; from = m })
+  unlabelled-parts m k h =
+      let no : holds (byte ":") there ≡ false = rw (← e) (le-ltb _ _ h) in
+      bare-parts m k (rw no (cond-same (isBare s (spanned t q)) none)) (rw no (cond-same (isBare s (spanned t q)) there))
+
+  pub string-parts : (m : ℕ) → m ≡ countBefore isMark (spanned t q) → isBare s (spanned t q) ≡ true
+      → Parted t s there (record { label = part.Unnamed; rest = q; from = m })
+  string-parts m k b = bare-parts m k (rw b refl) (rw b refl)
+
+  pub labelled-parts : (name rest : Span) → n < length (spanned t q) → isBare s (spanned t q) ≡ false
+      → name ≡ spanOf (trimPiece (piece (q .start) (take n (spanned t q)))) → rest ≡ spanOf (trimPiece (fromByte (n + 1) there))
+      → Parted t s there (record { label = part.Named name; rest = rest; from = 0 })
   unfolding before
-  labelled-parts name rest h a b =
-      let found : holds (byte ":") (pieceAt t q) ≡ true = rw (← e) (lt-ltb _ _ h) in
+  labelled-parts name rest h b f g =
+      let found : holds (byte ":") there ≡ true = rw (← e) (lt-ltb _ _ h) in
       record {
-        label = rw (found, ← e) (ap part.Named a);
-        rest = rw (found, ← e, ← add-one n, b) (ap (piece _) (trim-from-back t q (n + 1) (omega arith)));
+        label = rw (b, found, ← e) (ap part.Named f);
+        rest = rw (b, found, ← e, ← add-one n, g) (ap (piece _) (trim-from-back t q (n + 1) (omega arith)));
         from = omega arith;
       }
 
-module _ (t : List ℕ) (p : Piece) (r : Labelled) (d : Parted t p r) where
-  pub parted-from : NoSignBefore (r .from) (spanned t (r .rest))
-  parted-from = rw (ap (λ (x : Piece). x .bytes) (d .rest)) (d .from)
-
-  -- the line of the parts
-  pub parted-line : (s : Section) (says : code.Statement) → isSectionLine (p .bytes) ≡ false → says ≡ statementCode (unlabelledOf s (pieceAt t (r .rest)))
-      → _≡_ {A = line.Line} (record { label = r .label; says = says }) (lineCode (parsed s p))
-  parted-line s says k e =
-      let said = e ∙ ap (λ (x : Piece). statementCode (unlabelledOf s x)) (d .rest) in
-      rw (labelled-line s p k) (λ i. record { label = d .label i; says = said i })
+pub parted-from : (t : List ℕ) (s : Section) (p : Piece) (r : Labelled) → Parted t s p r → NoSignBefore (r .from) (spanned t (r .rest))
+parted-from t s p r d = rw (ap (λ (x : Piece). x .bytes) (d .rest)) (d .from)

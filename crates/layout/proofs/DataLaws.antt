@@ -3,15 +3,22 @@ use Prim.Native.Nat.{ℕ, _+_, _-_, _*_, _≤_, _<_}
 use native.Mathlib.Omega.{arith}
 use mathlib.Core.Path.{_≡_, refl, sym, ap, _∙_}
 use mathlib.Core.List.{List, [], _∷_, _++_, map-append}
+use mathlib.Core.Bool.{Bool, true, false}
+use mathlib.Core.Option.{Option, none, some}
+use lib.Dec.{ltb}
 use lib.ListN.{length, take, drop, replicate, length-append, length-drop, length-replicate, length-map}
 use lib.IntN.{ℤ}
 use types.Run.{OneOf, miss}
 use denote.Enum.Declared.{tagOf}
-use borrow.Author.Tests.{le-leb, lt-leb, lt-ltb, le-ltb}
+use borrow.Author.Tests.{le-leb, lt-leb, lt-ltb, le-ltb, ltb-true, ltb-false}
 use Rattle.numbers.specs.Results.{Result, value, refused, mapped}
 use Rattle.numbers.specs.Ints.{bits}
 use Rattle.numbers.specs.declared.text.Span.{Span}
+use Rattle.numbers.specs.declared.strings.Quoted.{Quoted}
 use Rattle.numbers.specs.code.Spans.{spanned}
+use Rattle.numbers.specs.Strings.{decoded}
+use Rattle.numbers.specs.code.Strings.{sizeOf, bytesOf, decodedBytes}
+use Rattle.numbers.proofs.Bools.{none-some}
 use Rattle.layout.specs.declared.limits.Room.{Room}
 use Rattle.layout.specs.declared.directives.Width.{Width}
 use Rattle.layout.specs.declared.directives.Width.the-variants.{Byte, Half, Word, Dword}
@@ -28,9 +35,9 @@ use Rattle.layout.specs.State.{LabelWord, Stored}
 use Rattle.layout.specs.Directives.{widthBytes, placeAfter}
 use Rattle.layout.specs.Directives as directive
 use Rattle.layout.specs.Stage.{writeSize, writeBytes, growData, addLabelWord, dataWrite}
-use Rattle.layout.specs.code.Spans.{SpanWithin}
 use Rattle.layout.specs.code.Rows.{Small}
 use Rattle.layout.specs.code.Tables.{labelWordSize, labelWordFields}
+use Rattle.layout.specs.code.Texts.{textOf, textBytes, StoredIn, textAt, TextFits}
 use Rattle.layout.specs.code.Writes.{writeAt, WriteFits, writtenBytes, TextSized}
 use Rattle.layout.specs.code.Steps.{Agrees, Steps}
 use Rattle.layout.specs.code.Stands.{labelWordOf, LabelWordsStand, StoredStand, dataStore}
@@ -45,6 +52,36 @@ use Rattle.layout.proofs.SpanLaws.{spanned-size}
 use Rattle.layout.proofs.ReservationLaws.{aligned-bounds}
 use Rattle.layout.proofs.StepLaws.{lift-stop}
 
+-- ---- a string's text
+
+-- an answer of n bytes is there, and has them
+answer-there : (o : Option (List ℕ)) (n : ℕ) → sizeOf o ≡ some n → (o ≡ some (bytesOf o)) × (length (bytesOf o) ≡ n)
+answer-there none n e = absurd (none-some e)
+answer-there (some bs) n e = (refl, cc)
+
+-- stored in n bytes
+module _ (n : ℕ) (s : List ℕ) (h : StoredIn n s) where
+  text-size : length (textBytes n s) ≡ n
+  text-size = answer-there (textOf n s) n h .1
+
+  -- where these are fewer than it has, it is decoded
+  pub text-decodes : n < length s → (decoded s ≡ some (decodedBytes s)) × (length (decodedBytes s) ≡ n) × (textBytes n s ≡ decodedBytes s)
+  text-decodes k =
+      let e = lt-ltb n (length s) k in
+      let d = answer-there (decoded s) n (rw e at h) in
+      (d .0, d .1, rw e refl)
+
+  -- else they are as many, and it is copied
+  pub text-copies : length s ≤ n → (length s ≡ n) × (textBytes n s ≡ s)
+  text-copies k = let e = le-ltb n (length s) k in (answer-there (some s) n (rw e at h) .1, rw e refl)
+
+  text-short : n ≤ length s
+  text-short = by (ltb n (length s)) refl
+    where
+      by : (b : Bool) → ltb n (length s) ≡ b → n ≤ length s
+      by true k = omega (arith, ltb-true n (length s) k)
+      by false k = omega (arith, text-copies (ltb-false n (length s) k) .0)
+
 -- ---- how much a write takes
 
 width-small : (w : Width) → widthBytes w ≤ 8
@@ -58,12 +95,12 @@ pub after-bounds : (p : ℕ) (r : Reservation) → Small r → (p ≤ placeAfter
 after-bounds p (Zeros n) h = (omega arith, omega (arith, h))
 after-bounds p (Aligns n) h = let b = aligned-bounds n p (h .0) in (b .0, omega (arith, b, h))
 
--- a span within the text has as many bytes as it names
-pub span-length : (t : List ℕ) (q : Span) → SpanWithin t q → length (spanned t q) ≡ q .len
-span-length t q h = omega (arith, h, spanned-size t q)
+module _ (t : List ℕ) (q : Quoted) (f : TextFits t q) where
+  pub text-small : q .size ≤ length t
+  text-small = omega (arith, text-short (q .size) (spanned t (q .part)) (f .1), spanned-size t (q .part))
 
-text-length : (t : List ℕ) (q : Span) (z : ℕ) → SpanWithin t q → length (spanned t q ++ replicate z 0) ≡ q .len + z
-text-length t q z h = length-append (spanned t q) (replicate z 0) ∙ rw (span-length t q h, length-replicate {A = ℕ} z 0) refl
+  text-length : (z : ℕ) → length (textAt t q ++ replicate z 0) ≡ q .size + z
+  text-length z = omega (arith, text-size (q .size) (spanned t (q .part)) (f .1), length-append (textAt t q) (replicate z 0), length-replicate {A = ℕ} z 0)
 
 abbrev Takes : List ℕ → ℕ → Write → ℕ → Type 0
 Takes t p x n = (n ≡ writeSize p (writeAt t x)) × (n ≤ 4294967296)
@@ -72,10 +109,10 @@ module _ (t : List ℕ) (p : ℕ) (x : Write) where
   pub number-takes : (w : Width) (v : ℤ) (n : ℕ) → x ≡ Number w v → n ≡ widthBytes w → Takes t p x n
   number-takes w v n e q = rw (e, length-little-endian (widthBytes w) (bits 64 v)) (q, omega (arith, q, width-small w))
 
-  pub text-takes : (q : Span) (z : ℕ) → x ≡ Text q z → WriteFits t x → length t ≤ textLimit → Takes t p x (q .len + z)
+  pub text-takes : (q : Quoted) (z : ℕ) → x ≡ Text q z → WriteFits t x → length t ≤ textLimit → Takes t p x (q .size + z)
   text-takes q z e f h =
       let g = rw e at f in
-      rw (e, text-length t q z (g .0)) (refl, omega (arith, g, h))
+      rw (e, text-length t q (g .0) z) (refl, omega (arith, text-small t q (g .0), g .1, h))
 
   pub gap-takes : (r : Reservation) (n : ℕ) → x ≡ Gap r → WriteFits t x → n ≡ placeAfter p r → Takes t p x (n - p)
   gap-takes r n e f q = rw (e, q) (refl, omega (arith, after-bounds p r (rw e at f)))
@@ -83,40 +120,41 @@ module _ (t : List ℕ) (p : ℕ) (x : Write) where
 -- ---- what it puts
 
 -- a string, and its zeros in the part after it
-module _ (t dst src : List ℕ) (n : ℕ) (x : Write) (q : Span) (z : ℕ) (e : x ≡ Text q z) (is : src ≡ spanned t q) (f : WriteFits t x)
+module _ (t dst part : List ℕ) (n : ℕ) (x : Write) (q : Quoted) (z : ℕ) (e : x ≡ Text q z) (is : part ≡ spanned t (q .part)) (f : WriteFits t x)
     (s : TextSized x n) (h : n ≤ length dst) where
-  text-within : SpanWithin t q
-  text-within = (rw e at f) .0
+  text-fits : TextFits t q
+  text-fits = (rw e at f) .0
 
-  text-sized : n ≡ q .len + z
+  text-sized : n ≡ q .size + z
   text-sized = rw e at s
 
-  source-length : length src ≡ q .len
-  source-length = ap length is ∙ span-length t q text-within
+  pub source-fits : StoredIn (q .size) part × (q .size ≤ length dst)
+  source-fits = (rw is (text-fits .1), omega (arith, text-sized, h))
 
-  pub source-room : length src ≤ length dst
-  source-room = omega (arith, source-length, text-sized, h)
+  source-length : length (textBytes (q .size) part) ≡ q .size
+  source-length = text-size (q .size) part (source-fits .0)
 
-  module _ (mid : List ℕ) (p : mid ≡ src ++ drop (length src) dst) where
-    pub zeros-left : q .len + z ≤ length mid
+  module _ (mid : List ℕ) (p : mid ≡ textBytes (q .size) part ++ drop (q .size) dst) where
+    pub zeros-left : q .size + z ≤ length mid
     zeros-left =
-        rw p (rw (length-append src (drop (length src) dst), length-drop (length src) dst) (omega (arith, source-length, text-sized, h)))
+        rw p (rw (length-append (textBytes (q .size) part) (drop (q .size) dst), length-drop (q .size) dst) (omega (arith, source-length, text-sized, h)))
 
-    pub zeros-room : z ≤ length (take (length mid - q .len) (drop (q .len) mid))
-    zeros-room = rw (length-mid (q .len) mid) (omega (arith, zeros-left))
+    pub zeros-room : z ≤ length (take (length mid - q .size) (drop (q .size) mid))
+    zeros-room = rw (length-mid (q .size) mid) (omega (arith, zeros-left))
 
-    pub text-put : (ys : List ℕ) → ys ≡ replicate z 0 ++ drop z (take (length mid - q .len) (drop (q .len) mid))
-        → take (q .len) mid ++ (ys ++ drop (length mid - q .len) (drop (q .len) mid)) ≡ writtenBytes t n x ++ drop n dst
+    pub text-put : (ys : List ℕ) → ys ≡ replicate z 0 ++ drop z (take (length mid - q .size) (drop (q .size) mid))
+        → take (q .size) mid ++ (ys ++ drop (length mid - q .size) (drop (q .size) mid)) ≡ writtenBytes t n x ++ drop n dst
     text-put ys r =
+        let src : List ℕ = textBytes (q .size) part in
         let zs : List ℕ = replicate z 0 in
         let all : length (src ++ zs) ≡ n =
         length-append src zs ∙ omega (arith, source-length, text-sized, length-replicate {A = ℕ} z 0) in
-        let none : length src ≡ 0 + length src = omega arith in
-        let first : src ++ drop (length src) dst ≡ put 0 src dst = ap (λ (i : ℕ). src ++ drop i dst) none in
+        let long : q .size ≡ 0 + length src = omega (arith, source-length) in
+        let first : src ++ drop (q .size) dst ≡ put 0 src dst = ap (λ (i : ℕ). src ++ drop i dst) long in
         let end : 0 + length (src ++ zs) ≡ n = omega (arith, all) in
-        put-lent (q .len) z zs mid ys (length-replicate z 0) zeros-left r
-        ∙ ap (put (q .len) zs) (p ∙ first)
-        ∙ put-put 0 (q .len) src zs dst (omega (arith, source-length)) (omega (arith, text-sized, h))
+        put-lent (q .size) z zs mid ys (length-replicate z 0) zeros-left r
+        ∙ ap (put (q .size) zs) (p ∙ first)
+        ∙ put-put 0 (q .size) src zs dst (omega (arith, source-length)) (omega (arith, text-sized, h))
         ∙ ap (λ (i : ℕ). src ++ zs ++ drop i dst) end
         ∙ rw (is, e) refl
 
@@ -168,7 +206,7 @@ module _ (t : List ℕ) (n : ℕ) (b : List ℕ) (line p : ℕ) (x : Write) wher
 module _ (t : List ℕ) (p : ℕ) (n : ℕ) where
   pub write-sized : (x : Write) → WriteFits t x → n ≡ writeSize p (writeAt t x) → TextSized x n
   write-sized (Number w v) f e = tt
-  write-sized (Text q z) f e = e ∙ text-length t q z (f .0)
+  write-sized (Text q z) f e = e ∙ text-length t q (f .0) z
   write-sized (Gap r) f e = tt
   write-sized (Address q) f e = tt
 

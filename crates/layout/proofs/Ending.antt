@@ -8,9 +8,8 @@ use lib.Dec.{eqb}
 use lib.ListN.{length, take, drop, length-drop}
 use borrow.Author.Tests.{eqb-false}
 use Rattle.numbers.specs.Results.{Result, value, refused, andThen}
-use Rattle.numbers.specs.Text.{byte, leading}
+use Rattle.numbers.specs.Text.{byte, leading, isDigit}
 use Rattle.numbers.specs.Numbers.{prefixed}
-use Rattle.layout.specs.Bytes.{isDigit}
 use Rattle.layout.specs.Refusals.{Refusal}
 use Rattle.layout.specs.Expressions.{plus, minus, unreadable, isBlank, isNameByte, isNumberByte, Scanned, numberToken, nameToken, scan}
 use Rattle.layout.specs.Expressions.{tokensIn, tokens}

@@ -11,6 +11,7 @@ use borrow.Author.Tests.{ltb-true, leb-true}
 use Rattle.numbers.specs.Results.{Result, value, refused, andThen, mapped}
 use Rattle.numbers.specs.Text.{same}
 use Rattle.numbers.specs.Numbers.{immOf}
+use Rattle.numbers.specs.Strings.{stringBytes}
 use Rattle.numbers.specs.Operands.{consFirst}
 use Rattle.layout.specs.declared.state.Section.{Section}
 use Rattle.layout.specs.declared.state.Section.the-variants as section
@@ -21,9 +22,9 @@ use Rattle.layout.specs.declared.directives.Reservation.{Reservation}
 use Rattle.layout.specs.Refusals.{atLine}
 use Rattle.layout.specs.Limits.{wordLimit, dataLimit, bssLimit, labelWordLimit, Lent, roomOf}
 use Rattle.layout.specs.Pieces.{Piece, lines, linePieces}
-use Rattle.layout.specs.Statements.{OwnStatement, item, stores, reserves, reservesBss, Statement, nothing, enters, equate, own, Line, lineOf}
+use Rattle.layout.specs.Statements.{OwnStatement, item, stores, string, reserves, reservesBss, Statement, nothing, enters, equate, own, Line, lineOf}
 use Rattle.layout.specs.Pseudos.{Item, ordinary, pseudo, other, itemOf, reservedWords}
-use Rattle.layout.specs.Directives.{Write, bytes, gap, addressOf, placeAfter, reservation, storeWrites}
+use Rattle.layout.specs.Directives.{Write, bytes, gap, addressOf, placeAfter, reservation, stringWrite, storeWrites}
 use Rattle.layout.specs.State.{Label, Equate, ItemLine, LabelWord, Items, Stored, Own, Rest, State, start, offsetIn, here}
 use Rattle.layout.specs.Stage.{isLabel, recorded, addLabel, labelStep, addEquate, addItem, textLine, writeSize, writeBytes, growData}
 use Rattle.layout.specs.Stage.{addLabelWord, dataWrite, dataLine, growBss, bssLine, inSection, withItems, withStored, withBss, withEquates}
@@ -259,6 +260,7 @@ module _ (t : List ℕ) (k : Room) where
               (λ x i. record { items = i; stored = f .stored; bss = f .bss })
               (text-line-fits few-words line h p (itemOf (p .bytes)) (σ .items) g (f .items))
           by (stores x p) g = in-data (storeWrites x (p .bytes))
+          by (string zeros p) g = in-data (stringWrite zeros (stringBytes (p .bytes)) ∷ [])
           by (reserves x p) g = in-data (mapped gap (reservation x (immOf (p .bytes))) ∷ [])
           by (reservesBss x p) g =
               let r = reservation x (immOf (p .bytes)) in

@@ -9,6 +9,8 @@ pub mod NameLaws
 pub mod DirectiveLaws
 pub mod ReservationLaws
 pub mod StatementLaws
+pub mod StringLaws
+pub mod LineLaws
 pub mod CutLaws
 pub mod PseudoLaws
 pub mod LineInside

@@ -1,33 +1,36 @@
 -- A line's parts lie within the text: its label, an equate's name and expression, and what the section's own rule takes.
-use Prim.Native.Nat.{ℕ}
+use Prim.Native.Nat.{ℕ, _-_, _≤_}
+use native.Mathlib.Omega.{arith}
 use mathlib.Core.Path.{_≡_, refl}
 use mathlib.Core.List.{List, [], _∷_}
 use mathlib.Core.Bool.{Bool, true, false, cond, not, _&&_, _||_}
 use mathlib.Core.Option.{Option, none, some}
 use lib.Dec.{eqb}
 use lib.ListN.{length, take}
-use Rattle.numbers.specs.Results.{Result}
+use Rattle.numbers.specs.Results.{Result, value, refused}
 use Rattle.numbers.specs.Text.{text, byte, isSpace, trimmed, startsWith, same}
 use Rattle.numbers.proofs.Bools.{and-left, and-right}
 use Rattle.layout.specs.declared.state.Section.{Section}
 use Rattle.layout.specs.declared.state.Section.the-variants as section
 use Rattle.layout.specs.declared.directives.Reserve.{Reserve}
 use Rattle.layout.specs.declared.directives.Store.{Store}
+use Rattle.layout.specs.declared.directives.Store.the-variants.{Numbers, Text, Float}
 use Rattle.layout.specs.declared.directives.Directive.{Directive}
 use Rattle.layout.specs.declared.directives.Directive.the-variants as directive
 use Rattle.layout.specs.Bytes.{isOneOf, countBefore}
 use Rattle.layout.specs.Pieces.{Piece, piece, trimPiece, fromByte, holds, pieceBefore, pieceAfter, isEmpty, statementOf}
 use Rattle.layout.specs.Directives.{Row, directives, rowIn}
-use Rattle.layout.specs.Statements.{Expr, asWritten, withOneSpace, OwnStatement, item, stores, reserves, reservesBss}
+use Rattle.layout.specs.Statements.{Expr, asWritten, withOneSpace, OwnStatement, item, stores, string, reserves, reservesBss}
 use Rattle.layout.specs.Statements.{Statement, nothing, enters, equate, own, sectionNamed, withoutDot, sectionOf, isSectionLine}
 use Rattle.layout.specs.Statements.{sectionLine, symbolAfter, equateOf, equOf, otherIn, assignmentOf, reservesIn, storesIn, directiveIn}
-use Rattle.layout.specs.Statements.{onRow, unlabelledOf, Line, labelled, parsed, lineOf}
+use Rattle.layout.specs.Statements.{onRow, unlabelledOf, Line, labelIn, afterLabel, labelled, beforeQuote, stringIn, stringOr, parsed, lineOf}
 use Rattle.layout.specs.code.Rows.{FewZeros, DirectiveFits, rowCode, SpelledWithin}
 use Rattle.layout.specs.code.Fits.{Inside}
 use Rattle.layout.proofs.DirectiveLaws.{directives-small, row-within}
 use Rattle.layout.proofs.Each.{cond-has}
 use Rattle.layout.proofs.Gives.{Gives}
 use Rattle.layout.proofs.SpanLaws.{count-within}
+use Rattle.layout.proofs.StringLaws.{head-label, SaysStores, unlabelled-stores, Within, within-within, after-part, statement-part, operand-starts}
 use Rattle.layout.proofs.Inside.{trim-inside, from-inside, first-inside, before-inside, after-inside, statement-inside}
 
 -- ---- what a line hands on of the text
@@ -40,6 +43,7 @@ LabelInside t (some name) = Inside t name
 abbrev pub OwnInside : List ℕ → OwnStatement → Type 0
 OwnInside t (item p) = Inside t p
 OwnInside t (stores x p) = FewZeros x × Inside t p
+OwnInside t (string zeros p) = (zeros ≤ 1) × Inside t p
 OwnInside t (reserves x p) = Inside t p
 OwnInside t (reservesBss x p) = Inside t p
 
@@ -155,20 +159,47 @@ module _ (t : List ℕ) where
 
   -- ---- lines
 
-  -- of a line's statement
-  pub parsed-inside : (s : Section) (p : Piece) → Inside t p → LineInside t (parsed s p)
-  unfolding parsed labelled
-  parsed-inside s p g = by (isSectionLine (p .bytes)) (holds (byte ":") p) refl
+  -- behind a label, if h, which p begins with, has one
+  after-inside-label : (h p : Piece) → (holds (byte ":") h ≡ true → holds (byte ":") p ≡ true) → Inside t p → Inside t (afterLabel h p)
+  after-inside-label h p e g = go (holds (byte ":") h) refl
     where
-      by : (a c : Bool) → holds (byte ":") p ≡ c → LineInside t
-          (cond a (record { label = none; says = sectionLine (p .bytes) })
-          (cond c (record { label = some (trimPiece (pieceBefore (byte ":") p)); says = unlabelledOf s (trimPiece (pieceAfter (byte ":") p)) })
-          (record { label = none; says = unlabelledOf s p })))
-      by true c h = record { label = tt; says = section-line-inside (p .bytes) }
-      by false true h =
-          record { label = trim-inside t _ (before-inside t p _ g); says = unlabelled-inside s _ (trim-inside t _ (after-inside t p _ h g)) }
-      by false false h = record { label = tt; says = unlabelled-inside s p g }
+      go : (c : Bool) → holds (byte ":") h ≡ c → Inside t (cond c (trimPiece (pieceAfter (byte ":") p)) p)
+      go true f = trim-inside t _ (after-inside t p _ (e f) g)
+      go false f = g
+
+  label-inside : (p : Piece) → Inside t p → LabelInside t (labelIn p)
+  label-inside p g = cond-has (LabelInside t) (holds (byte ":") p) _ _ (trim-inside t _ (before-inside t p _ g)) tt
+
+  labelled-inside : (s : Section) (p : Piece) → Inside t p → LineInside t (labelled s p)
+  unfolding labelled
+  labelled-inside s p g = record { label = label-inside p g; says = unlabelled-inside s _ (after-inside-label p p (λ e. e) g) }
+
+  -- a string's operand, from behind its directive to the line's end
+  operand-inside : (s : Section) (l p q : Piece) → Inside t l → Inside t p → Within l q → (x : Result ℕ Statement) → SaysStores s q x → SaysInside x
+      → LineInside t (stringOr (stringIn l x) s p)
+  operand-inside s l p q g h w (value (own (stores (Text zeros) rest))) i j =
+      let n = operand-starts l q w s rest i in
+      record { label = label-inside _ (before-inside t p _ h); says = (j .0, from-inside t l (rest .at - l .at) (omega (arith, n)) g) }
+  operand-inside s l p q g h w (value (own (stores (Numbers x) rest))) i j = labelled-inside s p h
+  operand-inside s l p q g h w (value (own (stores Float rest))) i j = labelled-inside s p h
+  operand-inside s l p q g h w (value (own (item x))) i j = labelled-inside s p h
+  operand-inside s l p q g h w (value (own (string zeros rest))) i j = labelled-inside s p h
+  operand-inside s l p q g h w (value (own (reserves x rest))) i j = labelled-inside s p h
+  operand-inside s l p q g h w (value (own (reservesBss x rest))) i j = labelled-inside s p h
+  operand-inside s l p q g h w (value nothing) i j = labelled-inside s p h
+  operand-inside s l p q g h w (value (enters x)) i j = labelled-inside s p h
+  operand-inside s l p q g h w (value (equate name x)) i j = labelled-inside s p h
+  operand-inside s l p q g h w (refused n) i j = labelled-inside s p h
+
+  -- of a line and its statement
+  parsed-inside : (s : Section) (l p : Piece) → Within l p → Inside t l → Inside t p → LineInside t (parsed s l p)
+  unfolding parsed
+  parsed-inside s l p w g h =
+      let q = afterLabel (beforeQuote p) p in
+      cond-has (LineInside t) (isSectionLine (p .bytes)) _ _ (record { label = tt; says = section-line-inside (p .bytes) })
+      (operand-inside s l p q g h (within-within l p q w (after-part (beforeQuote p) p (head-label p))) (unlabelledOf s q) (unlabelled-stores s q)
+      (unlabelled-inside s q (after-inside-label (beforeQuote p) p (head-label p) h)))
 
   -- of a line as it stands in the text
   pub line-inside : (s : Section) (l : Piece) → Inside t l → LineInside t (lineOf s l)
-  line-inside s l g = parsed-inside s (statementOf l) (statement-inside t l g)
+  line-inside s l g = parsed-inside s l (statementOf l) (statement-part l) g (statement-inside t l g)

@@ -7,7 +7,7 @@ use mathlib.Core.Bool.{true, false, _&&_, _||_}
 use mathlib.Core.List.{List, [], _∷_}
 use lib.ListN.{length, drop, getD, drop-of-length-le}
 use lib.Seq.{drop-cons}
-use Rattle.layout.specs.Bytes.{isDigit}
+use Rattle.numbers.specs.Text.{isDigit}
 use Rattle.layout.specs.Directives.{isLabelStart, allLabelBytes, isLabelName}
 
 -- no bytes: no name

@@ -179,6 +179,46 @@ pub data-cases :
 unfolding computing
 data-cases = (refl, refl, refl)
 
+-- ---- strings: document 02, W-201
+
+-- what a line stores in the data section
+abbrev stores : List ℕ → Result Refusal (List ℕ)
+stores l = laidData (text ".data\n" ++ l)
+
+pub string-line-cases :
+    (stores (text ".ascii \"12:40 #3;ok\\n\"") ≡ value (49 ∷ 50 ∷ 58 ∷ 52 ∷ 48 ∷ 32 ∷ 35 ∷ 51 ∷ 59 ∷ 111 ∷ 107 ∷ 10 ∷ []))
+    -- a label whose colon precedes the quote, no blank before that, each blank at both places, a comment behind; the text's end and LF
+    × (stores (text "a:.string\":\";\"") ≡ value (58 ∷ 0 ∷ []))
+    × (stores (text ".asciz" ++ 9 ∷ 11 ∷ 12 ∷ 13 ∷ 32 ∷ text "\"\"" ++ 9 ∷ 11 ∷ 12 ∷ 13 ∷ 32 ∷ text "# c\n.byte 1") ≡ value (0 ∷ 1 ∷ []))
+    -- the first colon makes a label where the line has no quote, or none before it
+    × (stores (text ".ascii:\"a\"") ≡ no 10 1)
+    × (stores (text "x: y: .ascii \":\"") ≡ no 10 1)
+    × (stores (text ".ascii a:b") ≡ no 10 1)
+    × (stores (text ".ascii :") ≡ value [])
+    × (stores (text ".section data: .ascii \":\"") ≡ no 3 1)
+    -- a label that has the quote: document 01's cut and string
+    × (stores (text "\": .ascii \"a\\n\"") ≡ value (97 ∷ 92 ∷ 110 ∷ []))
+    × (stores (text "\": .ascii \"a\" \"b\"") ≡ value (97 ∷ 34 ∷ 32 ∷ 34 ∷ 98 ∷ []))
+    × (stores (text "\": .ascii \"#\"") ≡ no 9 1)
+    -- "another escape, an octal above 377, no closing quote, or text beside the string"
+    × (stores (text ".ascii \"\\q\"") ≡ no 9 1)
+    × (stores (text ".ascii \"\\400\"") ≡ no 9 1)
+    × (stores (text ".ascii \"\\378\"") ≡ no 9 1)
+    × (stores (text ".ascii \"\\8\\377\\0019\"") ≡ value (8 ∷ 255 ∷ 1 ∷ 57 ∷ []))
+    × (stores (text ".ascii \"a\\\"") ≡ no 9 1)
+    × (stores (text ".ascii \"a\" \"b\"") ≡ no 9 1)
+    × (stores (text ".ascii \"a\" :") ≡ no 9 1)
+    × (stores (text ".asciiz \"a\"") ≡ no 9 1)
+    × (stores (text ".ascii # \"a\"") ≡ no 9 1)
+    -- other sections have none
+    × (laidData (text ".bss\n.ascii \":\"") ≡ no 11 1)
+    × (laidData (text ".ascii \":\"") ≡ value [])
+    -- 1 before all
+    × (stores (text ".ascii \"" ++ 128 ∷ text "\"") ≡ no 1 1)
+unfolding computing
+string-line-cases =
+    (refl, refl, refl, refl, refl, refl, refl, refl, refl, refl, refl, refl, refl, refl, refl, refl, refl, refl, refl, refl, refl, refl, refl)
+
 -- ---- expressions and rounds
 
 abbrev values : List ℕ → Result Refusal (List ℤ)
@@ -256,6 +296,11 @@ pub state-cases :
     × (layoutOf (replicate 65537 128) 0xFF000001 full ≡ no 40 0)
     × (layoutOf (replicate 65537 128) 0 full ≡ no 41 0)
     × (layoutOf (10 ∷ replicate 65535 128) 0 full ≡ no 1 1)
+    -- a string's 45, 9 and 42, by what it stands for with its 0
+    × (within (lent 0 0 0 0 0) (text ".data\nx: .asciz \"\\q\"") ≡ no 45 1)
+    × (within (lent 0 0 16 0 0) (text ".data\nx: .asciz \"\\q\"") ≡ no 9 1)
+    × (within (lent 0 1 16 0 0) (text ".data\nx: .asciz \"\\n\"") ≡ no 42 1)
+    × (within (lent 0 2 16 0 0) (text ".data\nx: .asciz \"\\n\"") ≡ value 0)
     -- each operand's own check, then 42
     × (within (lent 0 2 0 0 0) (text ".data\n.byte 1,2,x") ≡ no 6 1)
     × (within (lent 0 2 0 0 0) (text ".data\n.byte 1,2,3,x") ≡ no 42 1)
@@ -281,4 +326,4 @@ pub state-cases :
     × (addLabelWord 3 8 (addressOf (text "x")) (replicate 1024 (record { at = 4; name = text "y"; line = 2 })) ≡ refused 47)
 unfolding computing
 state-cases =
-    (refl, refl, refl, refl, refl, refl, refl, refl, refl, refl, refl, refl, refl, refl, refl, refl, refl, refl, refl, refl, refl, refl, refl)
+    (refl, refl, refl, refl, refl, refl, refl, refl, refl, refl, refl, refl, refl, refl, refl, refl, refl, refl, refl, refl, refl, refl, refl, refl, refl, refl, refl)

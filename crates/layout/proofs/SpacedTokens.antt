@@ -8,14 +8,13 @@ use lib.Dec.{leb, eqb}
 use lib.ListN.{length, take, drop, getD, length-drop, drop-of-length-le}
 use lib.Seq.{drop-cons, drop-drop}
 use borrow.Author.Tests.{lt-leb, leb-true, leb-false, ne-eqb}
-use Rattle.numbers.specs.Text.{byte, isSpace, leading, spaceFirst, oneSpaced}
+use Rattle.numbers.specs.Text.{byte, isSpace, leading, spaceFirst, oneSpaced, isDigit}
 use Rattle.numbers.specs.Numbers.{prefixed}
 use Rattle.numbers.specs.code.Cursors.{isSeparator}
 use Rattle.numbers.proofs.Bools.{or-left}
 use Rattle.layout.specs.declared.tokens.Token as code
 use Rattle.layout.specs.declared.tokens.TokenAt.{TokenAt}
 use Rattle.layout.specs.declared.tokens.TokenAt.the-variants.{At, End}
-use Rattle.layout.specs.Bytes.{isDigit}
 use Rattle.layout.specs.Expressions.{plus, minus, unreadable, isBlank, isNameByte, isNumberByte, Scanned, numberToken, nameToken, scan, tokensIn, tokens}
 use Rattle.layout.specs.Expressions.{isUnreadable, anyUnreadable}
 use Rattle.layout.specs.code.Tokens.{tokenOf, TokenStands, TokenHere, spacedIn, blankIn, tokensFrom, TokenLeads, TokenFrom}

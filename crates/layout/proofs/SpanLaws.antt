@@ -4,7 +4,6 @@ use native.Mathlib.Nat.{not-suc-le-zero, le-of-suc-le-suc}
 use mathlib.Core.Path.{_≡_, refl, sym, ap, _∙_}
 use mathlib.Core.List.{List, [], _∷_}
 use mathlib.Core.Bool.{Bool, true, false, cond, _||_}
-use mathlib.Core.Option.{some}
 use native.Mathlib.Omega.{arith}
 use native.Mathlib.Numerals.{add-one}
 use lib.Dec.{eqb}
@@ -12,10 +11,8 @@ use lib.ListN.{length, take, drop, getD, drop-of-length-le, length-take, length-
 use lib.Seq.{drop-cons, drop-drop, take-take, take-length, length-take-le}
 use Rattle.numbers.specs.declared.text.Span.{Span}
 use Rattle.numbers.specs.Text.{leadingSpaces, trimmed, indexOf, uncommented}
-use Rattle.numbers.specs.code.Spans.{trimSpan, spanned, strLitOf}
+use Rattle.numbers.specs.code.Spans.{trimSpan, spanned}
 use Rattle.numbers.proofs.Trims.{tail, span-front, span-later, trim-span-text, trim-span-within, statement-text, statement-within}
-use Rattle.numbers.proofs.Quoted.{str-lit-within, string-some}
-use Rattle.numbers.specs.Literals.{stringOf}
 use Rattle.layout.specs.Pieces.{piece, trimPiece, fromByte, statementOf}
 use Rattle.layout.specs.Bytes.{countBefore}
 use Rattle.layout.specs.code.Spans.{spanOf, pieceAt, lineAt, SpanWithin}
@@ -131,6 +128,15 @@ module _ (t : List ℕ) (q : Span) where
       let s = spanned t q in
       part-back (leadingSpaces s) (length (trimmed s)) (trim-span-within s) ∙ trim-span-text s
 
+-- a part p of a part q, by its own place in the text: it lies within that, and has the same bytes there
+module _ (t : List ℕ) (q p r : Span) (i : SpanWithin (spanned t q) p) (e : r ≡ record { start = q .start + p .start; len = p .len }) where
+  pub part-within : SpanWithin t q → SpanWithin t r
+  part-within w = rw e (omega (arith, w, i, spanned-size t q))
+
+  pub part-same : spanned t r ≡ spanned (spanned t q) p
+  unfolding spanned
+  part-same = rw e (part-back t q (p .start) (p .len) i)
+
 -- from its nth byte on, without the white space at its ends
 pub trim-from-back : (t : List ℕ) (q : Span) (n : ℕ) → n ≤ length (spanned t q)
     → spanned t (spanOf (trimPiece (fromByte n (pieceAt t q)))) ≡ trimmed (drop n (spanned t q))
@@ -143,15 +149,6 @@ statement-back t at end =
     let s = take (end - at) (drop at t) in
     let u = uncommented s in
     part-back t (record { start = at; len = end - at }) (leadingSpaces u) (length (trimmed u)) (statement-within s) ∙ statement-text s
-
--- what stands between the quotes of a string
-module _ (t : List ℕ) (q p : Span) (e : strLitOf (spanned t q) ≡ some p) where
-  pub string-within : SpanWithin t q → q .start + p .start + p .len ≤ length t
-  string-within h = omega (arith, str-lit-within (spanned t q) p e, spanned-size t q)
-
-  pub string-back : stringOf (spanned t q) ≡ some (spanned t (record { start = q .start + p .start; len = p .len }))
-  unfolding spanned
-  string-back = string-some (spanned t q) p e ∙ ap some (sym (part-back t q (p .start) (p .len) (str-lit-within (spanned t q) p e)))
 
 -- a span within the text has as many bytes as it says, and they are a piece of the text
 module _ (t : List ℕ) (q : Span) (h : SpanWithin t q) where

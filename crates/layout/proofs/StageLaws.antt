@@ -20,13 +20,13 @@ use Rattle.layout.specs.declared.state.RestCounters.{RestCounters}
 use Rattle.layout.specs.declared.state.Counters.{Counters}
 use Rattle.layout.specs.declared.directives.Reservation.{Reservation}
 use Rattle.layout.specs.declared.directives.Source.{Source}
-use Rattle.layout.specs.declared.directives.Source.the-variants.{Stores, Reserves}
+use Rattle.layout.specs.declared.directives.Source.the-variants.{Stores, String, Reserves}
 use Rattle.layout.specs.declared.line.EquateParts.{EquateParts}
 use Rattle.layout.specs.declared.line.OwnStatement.the-variants.{InData}
 use Rattle.layout.specs.declared.line.Line as code
 use Rattle.layout.specs.Limits.{wordLimit, bssLimit}
 use Rattle.layout.specs.Pieces.{Piece, piece}
-use Rattle.layout.specs.Statements.{OwnStatement, item, stores, reserves, reservesBss, Statement, nothing, enters, equate, own, Line, lineOf}
+use Rattle.layout.specs.Statements.{OwnStatement, item, stores, string, reserves, reservesBss, Statement, nothing, enters, equate, own, Line, lineOf}
 use Rattle.layout.specs.State.{Items, Stored, Own, Rest, State, offsetIn, here}
 use Rattle.layout.specs.Stage.{labelStep, addEquate, dataLine, bssLine, withItems, withStored, withBss, withRest}
 use Rattle.layout.specs.Stage.{ownLine, statementStep, stepParsed, stepLine}
@@ -123,6 +123,7 @@ pub source-line : (t : List ℕ) (k : Room) (line : ℕ) (x : Source) (q : Span)
     → ownLine k line (ownAt t (InData x q)) σ ≡ mapped (withStored σ) (dataLine k line (sourceReadings x (spanned t q)) (σ .stored))
 unfolding ownLine
 source-line t k line (Stores x) q σ = refl
+source-line t k line (String zeros) q σ = refl
 source-line t k line (Reserves x) q σ = refl
 
 -- ---- what a statement does
@@ -186,6 +187,7 @@ module _ (t : List ℕ) where
   own-back : (s : OwnStatement) → OwnInside t s → ownAt t (ownCode s) ≡ s
   own-back (item p) g = ap item (piece-back p g)
   own-back (stores x p) g = ap (stores x) (piece-back p (g .1))
+  own-back (string zeros p) g = ap (string zeros) (piece-back p (g .1))
   own-back (reserves x p) g = ap (reserves x) (piece-back p g)
   own-back (reservesBss x p) g = ap (reservesBss x) (piece-back p g)
 
@@ -203,6 +205,7 @@ module _ (t : List ℕ) where
   own-within : (s : OwnStatement) → OwnInside t s → OwnWithin t (ownCode s)
   own-within (item p) g = g .within
   own-within (stores x p) g = (g .0, g .1 .within)
+  own-within (string zeros p) g = (g .0, g .1 .within)
   own-within (reserves x p) g = (tt, g .within)
   own-within (reservesBss x p) g = g .within
 

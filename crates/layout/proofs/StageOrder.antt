@@ -15,6 +15,7 @@ use Rattle.numbers.specs.Text.{text, byte, trimmed, startsWith, same}
 use Rattle.numbers.specs.Numbers.{immOf}
 use Rattle.numbers.specs.Operands.{operands}
 use Rattle.numbers.specs.Literals.{stringOf}
+use Rattle.numbers.specs.Strings.{stringBytes}
 use Rattle.numbers.proofs.Bools.{or-left, or-right}
 use Rattle.numbers.proofs.Prefixes.{same-equal, same-refl}
 use Rattle.layout.specs.declared.state.Section.{Section}
@@ -37,10 +38,10 @@ use Rattle.layout.specs.Limits.{bssLimit, labelWordLimit}
 use Rattle.layout.specs.Pieces.{Piece, trimPiece, holds, isEmpty, statementOf, lines, linePieces}
 use Rattle.layout.specs.Directives.{Row, directives, rowIn, placeAfter, reservation, Write, bytes, gap, addressOf, isLabelName, rangeAt}
 use Rattle.layout.specs.Directives.{readAt, unread, numberOrName, operandWrite, stringWrite, storeWrites}
-use Rattle.layout.specs.Statements.{Expr, OwnStatement, item, stores, reserves, reservesBss}
+use Rattle.layout.specs.Statements.{Expr, OwnStatement, item, stores, string, reserves, reservesBss}
 use Rattle.layout.specs.Statements.{Statement, nothing, enters, equate, own, sectionNamed, withoutDot, sectionOf, isSectionLine}
 use Rattle.layout.specs.Statements.{sectionLine, symbolAfter, equateOf, equOf, isAssignment, otherIn, assignmentOf}
-use Rattle.layout.specs.Statements.{directiveIn, onRow, unlabelledOf, Line, labelled, parsed, lineOf}
+use Rattle.layout.specs.Statements.{directiveIn, onRow, unlabelledOf, Line, afterLabel, labelled, beforeQuote, stringIn, stringOr, parsed, lineOf}
 use Rattle.layout.specs.Pseudos.{Item, ordinary, pseudo, other, itemOf, reservedWords}
 use Rattle.layout.specs.State.{Label, Equate, ItemLine, LabelWord, Items, Stored, Own, Rest, State, start, here}
 use Rattle.layout.specs.Stage.{isLabel, recorded, addLabel, labelStep, addEquate, addItem, textLine, writeSize, writeBytes, growData}
@@ -84,17 +85,17 @@ operand-sound w s = by (readAt w s)
     by none = unread-sound w s
     by (some z) = cond-has Sound (rangeAt w z) _ _ tt refl
 
+string-sound : (zeros : ℕ) (o : Option (List ℕ)) → Sound (stringWrite zeros o)
+string-sound zeros none = refl
+string-sound zeros (some bs) = tt
+
 store-sound : (x : Store) (s : List ℕ) → Each Sound (storeWrites x s)
 store-sound (Numbers w) s = by (operands s)
   where
     by : (ops : List (List ℕ)) → Each Sound (map (operandWrite w) ops)
     by [] = tt
     by (op ∷ ops) = (operand-sound w op, by ops)
-store-sound (Text zeros) s = (by (stringOf s), tt)
-  where
-    by : (o : Option (List ℕ)) → Sound (stringWrite zeros o)
-    by none = refl
-    by (some b) = tt
+store-sound (Text zeros) s = (string-sound zeros (stringOf s), tt)
 store-sound Float s = (refl, tt)
 
 reservation-sound : (x : Reserve) (o : Option ℤ) → Sound (reservation x o)
@@ -160,13 +161,17 @@ unfolding parsed labelled sectionLine
 line-sound s l =
     cond-has SaysSound (isSectionLine (p .bytes)) _ _
     (cond-has Sound (startsWith (text ".section") (p .bytes)) _ _ (section-sound _) (section-sound (p .bytes)))
-    (cond-has SaysSound (holds (byte ":") p) _ _ (unlabelled-sound s _) (unlabelled-sound s p))
+    (by (stringIn l (unlabelledOf s (afterLabel (beforeQuote p) p))))
   where
     p : Piece
     p = statementOf l
 
     SaysSound : Line → Type 0
     SaysSound x = Sound (x .says)
+
+    by : (o : Option OwnStatement) → SaysSound (stringOr o s p)
+    by none = unlabelled-sound s (afterLabel p p)
+    by (some x) = tt
 
 -- ---- labels
 
@@ -314,6 +319,10 @@ module _ (k : Room) (line m : ℕ) (below : line < m) where
   own-laid (stores x p) σ g =
       mapped-comes (StoredLaid m) OwnLaid OfLines (withStored σ) (dataLine k line (storeWrites x (p .bytes)) (σ .stored)) (λ y h. (h, g .1))
       (data-laid (storeWrites x (p .bytes)) (σ .stored) (store-sound x (p .bytes)) (g .0))
+  own-laid (string zeros p) σ g =
+      let r = stringWrite zeros (stringBytes (p .bytes)) in
+      mapped-comes (StoredLaid m) OwnLaid OfLines (withStored σ) (dataLine k line (r ∷ []) (σ .stored)) (λ y h. (h, g .1))
+      (data-laid (r ∷ []) (σ .stored) (string-sound zeros (stringBytes (p .bytes)), tt) (g .0))
   own-laid (reserves x p) σ g =
       let r = reservation x (immOf (p .bytes)) in
       mapped-comes (StoredLaid m) OwnLaid OfLines (withStored σ) (dataLine k line (mapped gap r ∷ []) (σ .stored)) (λ y h. (h, g .1))

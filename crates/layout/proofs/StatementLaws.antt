@@ -15,11 +15,10 @@ use Rattle.layout.specs.declared.state.Section.{Section}
 use Rattle.layout.specs.declared.directives.Spelling.{Spelling}
 use Rattle.layout.specs.declared.directives.Spelled.the-variants as spelled
 use Rattle.layout.specs.Bytes.{countBefore}
-use Rattle.layout.specs.Pieces.{Piece, piece, trimPiece, fromByte, holds, pieceBefore, pieceAfter, isEmpty}
+use Rattle.layout.specs.Pieces.{Piece, piece, trimPiece, fromByte, isEmpty}
 use Rattle.layout.specs.Directives.{Row, directives, rowIn}
-use Rattle.layout.specs.Statements.{asWritten, withOneSpace, withoutDot, isSectionLine, equateOf, equOf, otherIn, assignmentOf, directiveIn, onRow, unlabelledOf, Line, labelled, parsed}
+use Rattle.layout.specs.Statements.{asWritten, withOneSpace, withoutDot, isSectionLine, equateOf, equOf, otherIn, assignmentOf, directiveIn, onRow, unlabelledOf}
 use Rattle.layout.specs.code.Rows.{rowCode}
-use Rattle.layout.specs.code.Cuts.{labelIn, afterLabel}
 
 -- a name with a dot is what follows it, and one without it is itself
 pub dotted : (n : List ℕ) → startsWith (text ".") n ≡ true → withoutDot n ≡ drop 1 n
@@ -124,20 +123,3 @@ module _ (s : Section) (p : Piece) where
 
       pub signed-equate : n < length (p .bytes) → isEmpty (leftOf p n) || isEmpty (rightOf p n) ≡ false → assignmentOf s p ≡ equateOf (leftOf p n) (asWritten (rightOf p n))
       signed-equate h k = sides h ∙ rw k refl
-
-  -- a line that is no section line
-  pub labelled-line : isSectionLine (p .bytes) ≡ false → parsed s p ≡ record { label = labelIn p; says = unlabelledOf s (afterLabel p) }
-  unfolding parsed labelled
-  labelled-line k = rw k (go (holds (byte ":") p))
-    where
-      name : Piece
-      name = trimPiece (pieceBefore (byte ":") p)
-
-      rest : Piece
-      rest = trimPiece (pieceAfter (byte ":") p)
-
-      go : (t : Bool) → _≡_ {A = Line}
-          (cond t (record { label = some name; says = unlabelledOf s rest }) (record { label = none; says = unlabelledOf s p }))
-          (record { label = cond t (some name) none; says = unlabelledOf s (cond t rest p) })
-      go true = refl
-      go false = refl

@@ -10,7 +10,7 @@ use lib.Dec.{eqb}
 use lib.ListN.{length, take, drop, getD}
 use lib.IntN.{ℤ, pos, _+ℤ_}
 use Rattle.numbers.specs.Results.{value, refused}
-use Rattle.numbers.specs.Text.{leading}
+use Rattle.numbers.specs.Text.{leading, isDigit}
 use Rattle.numbers.specs.Numbers.{numberOf}
 use Rattle.numbers.specs.Ints.{fit64, signTimes}
 use Rattle.numbers.specs.declared.ints.Checked.{Checked}
@@ -25,7 +25,6 @@ use Rattle.layout.specs.declared.expr.Joint.the-variants.{Operator, End,
 use Rattle.layout.specs.declared.expr.Partial.{Partial}
 use Rattle.layout.specs.declared.expr.Evaluated as answer
 use Rattle.layout.specs.declared.expr.Evaluated.the-variants.{Value, Waits, Refused}
-use Rattle.layout.specs.Bytes.{isDigit}
 use Rattle.layout.specs.Expressions.{Token, plus, minus, dot, number, name, unreadable, Evaluated, positive, term, joint}
 use Rattle.layout.specs.Expressions.{isNameByte, isNumberByte, tokens, anyUnreadable, addTerm, onName, sumFrom, evaluate}
 use Rattle.layout.specs.code.Tokens.{tokenOf, numeral, signOf, TokenStands, spacedIn, blankIn, tokensFrom, TokenLeads}

@@ -10,7 +10,7 @@ use lib.ListN.{length, take, drop, getD, length-drop, drop-of-length-le}
 use lib.IntN.{ℤ}
 use lib.Seq.{drop-cons, drop-drop}
 use borrow.Author.Tests.{le-leb, lt-leb, leb-true, leb-false, ne-eqb, eqb-true}
-use Rattle.numbers.specs.Text.{isSpace, leading, consTrimmed, trimStart, trimEnd, trimmed, startsWith}
+use Rattle.numbers.specs.Text.{isSpace, leading, consTrimmed, trimStart, trimEnd, trimmed, startsWith, isDigit}
 use Rattle.numbers.specs.Numbers.{prefixed, outerSigned, numberOf}
 use Rattle.numbers.specs.code.Spans.{spanned}
 use Rattle.numbers.proofs.Bools.{and-left, and-right}
@@ -19,7 +19,6 @@ use Rattle.layout.specs.declared.tokens.Token as code
 use Rattle.layout.specs.declared.tokens.Token.the-variants as kind
 use Rattle.layout.specs.declared.tokens.Sign.{Sign}
 use Rattle.layout.specs.declared.tokens.Sign.the-variants as sign
-use Rattle.layout.specs.Bytes.{isDigit}
 use Rattle.layout.specs.Expressions.{Token, name, isBlank, isNameByte, isNumberByte, numberToken, nameToken, positive, negative, scan, tokensIn, tokens}
 use Rattle.layout.specs.code.Tokens.{tokenOf, numeral, signOf, TokenWithin, TokenStands}
 use Rattle.layout.proofs.Ending.{scan-takes, tokens-fuel}

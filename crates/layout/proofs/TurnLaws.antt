@@ -11,7 +11,7 @@ use lib.ListN.{length, take, drop, replicate, length-drop, drop-of-length-le}
 use lib.Seq.{drop-drop, length-take-le}
 use Rattle.numbers.specs.Results.{Result, value, refused, andThen}
 use Rattle.numbers.specs.declared.text.Span.{Span}
-use Rattle.numbers.specs.Text.{startsWith, same, indexOf}
+use Rattle.numbers.specs.Text.{startsWith, same, indexOf, before}
 use Rattle.numbers.specs.Operands.{consFirst}
 use Rattle.numbers.proofs.Places.{index-within}
 use Rattle.layout.specs.declared.limits.Room.{Room}
@@ -75,10 +75,11 @@ module _ (t : List ℕ) (at end : ℕ) (h : at < length t) (q : end ≡ at + ind
       rw s (ap (λ (i : ℕ). lineAt t at end ∷ linePieces i (lines (drop (end + 1) t))) z)
 
 -- a line whose statement is empty leaves the state as it is
-blank-line : (k : Room) (line n : ℕ) (s : Section) (σ : State) (bytes : List ℕ) → length bytes ≡ 0 → stepParsed k line (parsed s (piece n bytes)) σ ≡ value σ
-unfolding stepParsed parsed labelled unlabelledOf labelStep statementStep startsWith same indexOf
-blank-line k line n s σ [] e = refl
-blank-line k line n s σ (x ∷ xs) e = absurd (omega arith)
+blank-line : (k : Room) (line n : ℕ) (s : Section) (l : Piece) (σ : State) (bytes : List ℕ) → length bytes ≡ 0
+    → stepParsed k line (parsed s l (piece n bytes)) σ ≡ value σ
+unfolding stepParsed parsed labelled unlabelledOf labelStep statementStep startsWith same indexOf before
+blank-line k line n s l σ [] e = refl
+blank-line k line n s l σ (x ∷ xs) e = absurd (omega arith)
 
 -- ---- the loop's head
 
@@ -140,7 +141,7 @@ module _ (t : List ℕ) (k : Room) (b : Store) (c : Counters) (at line : ℕ) (h
     pub turn-blank : cut .part .len ≤ 0 → Head t k b c (cut .end + 1) (line + 1)
     turn-blank e =
         let none : length (statementOf (cutLine t cut) .bytes) ≡ 0 = sym (ap (λ (q : Span). q .len) (w .statement)) ∙ omega arith in
-        turn-go b (value c) (λ σ s. rw (blank-line k line _ (σ .rest .own .section) σ (statementOf (cutLine t cut) .bytes) none) s) c refl
+        turn-go b (value c) (λ σ s. rw (blank-line k line _ (σ .rest .own .section) (cutLine t cut) σ (statementOf (cutLine t cut) .bytes) none) s) c refl
 
 -- ---- the start
 

@@ -33,9 +33,6 @@ unfoldable pub countBefore : (ℕ → Bool) → List ℕ → ℕ
 countBefore test [] = 0
 countBefore test (x ∷ xs) = cond (test x) 0 (suc (countBefore test xs))
 
-abbrev pub isDigit : ℕ → Bool
-isDigit b = leb (byte "0") b && leb b (byte "9")
-
 abbrev pub isLetter : ℕ → Bool
 isLetter b = (leb (byte "a") b && leb b (byte "z")) || (leb (byte "A") b && leb b (byte "Z"))
 

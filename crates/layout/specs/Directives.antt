@@ -8,7 +8,7 @@ use lib.Dec.{eqb}
 use lib.ListN.{replicate}
 use lib.IntN.{ℤ, pos, negsuc}
 use Rattle.numbers.specs.Results.{Result, value, refused}
-use Rattle.numbers.specs.Text.{text, byte, startsWith}
+use Rattle.numbers.specs.Text.{text, byte, startsWith, isDigit}
 use Rattle.numbers.specs.Ints.{isByte, isHalf, bits}
 use Rattle.numbers.specs.Numbers.{immOf, imm64Of}
 use Rattle.numbers.specs.Literals.{stringOf}
@@ -23,7 +23,7 @@ use Rattle.layout.specs.declared.directives.Directive.{Directive}
 use Rattle.layout.specs.declared.directives.Directive.the-variants as directive
 use Rattle.layout.specs.declared.directives.Reservation.{Reservation}
 use Rattle.layout.specs.declared.directives.Reservation.the-variants.{Zeros, Aligns}
-use Rattle.layout.specs.Bytes.{littleEndian, isDigit, isLetter}
+use Rattle.layout.specs.Bytes.{littleEndian, isLetter}
 
 -- ---- the table
 
@@ -144,12 +144,13 @@ numberOrName w (some z) s = cond (rangeAt w z) (value (bytes (littleEndian (widt
 abbrev pub operandWrite : Width → List ℕ → Result ℕ Write
 operandWrite w s = numberOrName w (readAt w s) s
 
--- "what stands between is stored unchanged, and `.asciz` and `.string` add a 0"; else 9
+-- a string's bytes, "and `.asciz` and `.string` add a 0"; "9 string malformed"
 abbrev pub stringWrite : ℕ → Option (List ℕ) → Result ℕ Write
 stringWrite zeros none = refused 9
 stringWrite zeros (some s) = value (bytes (s ++ replicate zeros 0))
 
--- what a directive that stores does, operand by operand; 21 for `.float`
+-- what a directive that stores does, operand by operand; a string as document 01 has it, "what stands between is stored unchanged" (others:
+-- `Statements`, `string`); 21 for `.float`
 abbrev pub storeWrites : Store → List ℕ → List (Result ℕ Write)
 storeWrites (Numbers w) s = map (operandWrite w) (operands s)
 storeWrites (Text zeros) s = stringWrite zeros (stringOf s) ∷ []

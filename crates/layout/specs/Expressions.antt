@@ -7,10 +7,10 @@ use lib.Dec.{leb, eqb}
 use lib.ListN.{length, take, drop}
 use lib.IntN.{ℤ, pos, _+ℤ_}
 use Rattle.numbers.specs.Results.{Result, value, refused}
-use Rattle.numbers.specs.Text.{byte, leading}
+use Rattle.numbers.specs.Text.{byte, leading, isDigit}
 use Rattle.numbers.specs.Ints.{fit64, signTimes}
 use Rattle.numbers.specs.Numbers.{prefixed}
-use Rattle.layout.specs.Bytes.{isDigit, isLetter}
+use Rattle.layout.specs.Bytes.{isLetter}
 
 pub data Token : Type 0 where
   plus : Token

@@ -1,5 +1,5 @@
 -- Pieces of the text, and its lines. Document 01, "Text, numbers, registers".
-use Prim.Native.Nat.{ℕ, suc, _+_}
+use Prim.Native.Nat.{ℕ, suc, _+_, _-_}
 use mathlib.Core.List.{List, [], _∷_}
 use mathlib.Core.Bool.{Bool, cond}
 use lib.Dec.{ltb, eqb}
@@ -22,6 +22,10 @@ trimPiece p = piece (p .at + leadingSpaces (p .bytes)) (trimmed (p .bytes))
 -- a piece from its nth byte on
 abbrev pub fromByte : ℕ → Piece → Piece
 fromByte n p = piece (p .at + n) (drop n (p .bytes))
+
+-- a piece from a place of the text on
+abbrev pub fromPlace : ℕ → Piece → Piece
+fromPlace n p = fromByte (n - p .at) p
 
 -- does a byte stand in a piece? what stands before the first, and after it
 abbrev pub holds : ℕ → Piece → Bool

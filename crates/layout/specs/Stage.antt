@@ -1,5 +1,5 @@
 -- The line stage: labels, equates, items, data and bss, line by line, with the refusals in document 01's order.
--- Document 01, "Lines to places", "Refused because of the state", "Order".
+-- Document 01, "Lines to places", "Refused because of the state", "Order"; document 02, W-201.
 use Prim.Native.Nat.{ℕ, suc, _+_, _-_, _*_}
 use mathlib.Core.List.{List, [], _∷_, _++_}
 use mathlib.Core.Bool.{Bool, true, false, _||_}
@@ -9,6 +9,7 @@ use lib.ListN.{length, replicate}
 use Rattle.numbers.specs.Results.{Result, value, refused, andThen, mapped}
 use Rattle.numbers.specs.Text.{same}
 use Rattle.numbers.specs.Numbers.{immOf}
+use Rattle.numbers.specs.Strings.{stringBytes}
 use Rattle.layout.specs.declared.state.Section.{Section}
 use Rattle.layout.specs.declared.state.Place.{Place}
 use Rattle.layout.specs.declared.limits.Room.{Room}
@@ -17,10 +18,10 @@ use Rattle.layout.specs.declared.directives.Reservation.{Reservation}
 use Rattle.layout.specs.Refusals.{Refusal, atLine}
 use Rattle.layout.specs.Limits.{bssLimit, labelWordLimit}
 use Rattle.layout.specs.Pieces.{Piece}
-use Rattle.layout.specs.Statements.{OwnStatement, item, stores, reserves, reservesBss}
+use Rattle.layout.specs.Statements.{OwnStatement, item, stores, string, reserves, reservesBss}
 use Rattle.layout.specs.Statements.{Statement, nothing, enters, equate, own, Line, lineOf}
 use Rattle.layout.specs.Pseudos.{Item, ordinary, pseudo, other, itemOf, reservedWords}
-use Rattle.layout.specs.Directives.{Write, bytes, gap, addressOf, placeAfter, reservation, storeWrites}
+use Rattle.layout.specs.Directives.{Write, bytes, gap, addressOf, placeAfter, reservation, stringWrite, storeWrites}
 use Rattle.layout.specs.State.{Label, Equate, LabelWord, Items, Stored, Own, Rest, State, here}
 
 -- ---- labels
@@ -146,6 +147,7 @@ withRest ls x = record { labels = ls; rest = x }
 unfoldable pub ownLine : Room → ℕ → OwnStatement → Own → Result ℕ Own
 ownLine k line (item p) σ = mapped (withItems σ) (textLine k line p (itemOf (p .bytes)) (σ .items))
 ownLine k line (stores x p) σ = mapped (withStored σ) (dataLine k line (storeWrites x (p .bytes)) (σ .stored))
+ownLine k line (string zeros p) σ = mapped (withStored σ) (dataLine k line (stringWrite zeros (stringBytes (p .bytes)) ∷ []) (σ .stored))
 ownLine k line (reserves x p) σ = mapped (withStored σ) (dataLine k line (mapped gap (reservation x (immOf (p .bytes))) ∷ []) (σ .stored))
 ownLine k line (reservesBss x p) σ = mapped (withBss σ) (bssLine (reservation x (immOf (p .bytes))) (σ .bss))
 

@@ -1,5 +1,5 @@
 -- What a line says, read in a section: its label; a section, a symbol, an ignored directive, an equate, or what the section's own rule
--- takes. Document 01, "Lines to places".
+-- takes. Document 01, "Lines to places"; document 02, W-201.
 use Prim.Native.Nat.{ℕ}
 use mathlib.Core.List.{List, [], _∷_}
 use mathlib.Core.Bool.{Bool, true, false, cond, not, _&&_, _||_}
@@ -12,11 +12,12 @@ use Rattle.layout.specs.declared.state.Section.{Section}
 use Rattle.layout.specs.declared.state.Section.the-variants as section
 use Rattle.layout.specs.declared.directives.Reserve.{Reserve}
 use Rattle.layout.specs.declared.directives.Store.{Store}
+use Rattle.layout.specs.declared.directives.Store.the-variants.{Numbers, Text, Float}
 use Rattle.layout.specs.declared.directives.Directive.{Directive}
 use Rattle.layout.specs.declared.directives.Directive.the-variants as directive
 use Rattle.layout.specs.Bytes.{isOneOf, countBefore}
 use Rattle.layout.specs.Directives.{Row, directives, rowIn}
-use Rattle.layout.specs.Pieces.{Piece, piece, trimPiece, fromByte, holds, pieceBefore, pieceAfter, isEmpty, statementOf}
+use Rattle.layout.specs.Pieces.{Piece, piece, trimPiece, fromByte, fromPlace, holds, pieceBefore, pieceAfter, isEmpty, statementOf}
 
 -- an equate's expression: where it stands, and whether its white space is read in runs
 pub record Expr : Type 0 where
@@ -33,10 +34,12 @@ withOneSpace p = record { source = p; oneSpace = true }
 abbrev pub exprText : Expr → List ℕ
 exprText e = cond (e .oneSpace) (oneSpaced (e .source .bytes)) (e .source .bytes)
 
--- what the section's own rule takes: a line of the text section; in data what is stored, or zeros; in bss zeros
+-- what the section's own rule takes: a line of the text section; in data what is stored, a string to its closing quote with so many
+-- bytes 0 after it, or zeros; in bss zeros
 pub data OwnStatement : Type 0 where
   item : Piece → OwnStatement
   stores : Store → Piece → OwnStatement
+  string : ℕ → Piece → OwnStatement
   reserves : Reserve → Piece → OwnStatement
   reservesBss : Reserve → Piece → OwnStatement
 
@@ -152,16 +155,49 @@ pub record Line : Type 0 where
   pub says : Result ℕ Statement
 
 -- "Otherwise text before the first `:` is a label, possibly empty"; an empty name starts at its colon
-unfoldable pub labelled : Section → Piece → Line
-labelled s p =
-    cond (holds (byte ":") p)
-    (record { label = some (trimPiece (pieceBefore (byte ":") p)); says = unlabelledOf s (trimPiece (pieceAfter (byte ":") p)) })
-    (record { label = none; says = unlabelledOf s p })
+abbrev pub labelIn : Piece → Option Piece
+labelIn p = cond (holds (byte ":") p) (some (trimPiece (pieceBefore (byte ":") p))) none
+
+-- what follows p's label, if h, which p begins with, has a colon; else all of p
+abbrev pub afterLabel : Piece → Piece → Piece
+afterLabel h p = cond (holds (byte ":") h) (trimPiece (pieceAfter (byte ":") p)) p
 
 -- the line whose statement is p, in a section
-unfoldable pub parsed : Section → Piece → Line
-parsed s p = cond (isSectionLine (p .bytes)) (record { label = none; says = sectionLine (p .bytes) }) (labelled s p)
+unfoldable pub labelled : Section → Piece → Line
+labelled s p = record { label = labelIn p; says = unlabelledOf s (afterLabel p p) }
+
+-- ---- strings to their closing quote: document 02, W-201
+
+-- "an optional label whose colon precedes the first quote": it stands in what comes before that, or in all where there is no quote
+abbrev pub beforeQuote : Piece → Piece
+beforeQuote p = pieceBefore (byte "\"") p
+
+-- "On a line in the data section that begins .. with `.ascii`, `.asciz` or `.string`": no other statement stores a string. Its operand is
+-- what stands behind the directive to the line's end
+abbrev pub stringIn : Piece → Result ℕ Statement → Option OwnStatement
+stringIn l (value (own (stores (Text zeros) rest))) = some (string zeros (fromPlace (rest .at) l))
+stringIn l (value (own (stores (Numbers w) rest))) = none
+stringIn l (value (own (stores Float rest))) = none
+stringIn l (value (own (item p))) = none
+stringIn l (value (own (string zeros rest))) = none
+stringIn l (value (own (reserves x rest))) = none
+stringIn l (value (own (reservesBss x rest))) = none
+stringIn l (value nothing) = none
+stringIn l (value (enters s)) = none
+stringIn l (value (equate name expr)) = none
+stringIn l (refused n) = none
+
+-- any other line is read as document 01 has it, also one whose label has the first quote: `": .ascii "a\n"` stores three bytes
+abbrev pub stringOr : Option OwnStatement → Section → Piece → Line
+stringOr none s p = labelled s p
+stringOr (some x) s p = record { label = labelIn (beforeQuote p); says = value (own x) }
+
+-- the line l, whose statement is p, in a section
+unfoldable pub parsed : Section → Piece → Piece → Line
+parsed s l p =
+    cond (isSectionLine (p .bytes)) (record { label = none; says = sectionLine (p .bytes) })
+    (stringOr (stringIn l (unlabelledOf s (afterLabel (beforeQuote p) p))) s p)
 
 -- a line as it stands in the text, in a section: its label and what it says
 abbrev pub lineOf : Section → Piece → Line
-lineOf s l = parsed s (statementOf l)
+lineOf s l = parsed s l (statementOf l)

@@ -4,6 +4,7 @@ pub mod Rows
 pub mod Spans
 pub mod Cuts
 pub mod Kinds
+pub mod Texts
 pub mod Writes
 pub mod Index
 pub mod Tables

@@ -9,12 +9,13 @@ use crate::directives::reservation_of;
 use crate::limits::LABEL_WORD_LIMIT;
 use crate::limits::Room;
 use crate::little_endian::put_number;
+use crate::pieces::part_in;
 use crate::records::LabelWordRecord;
 use crate::records::put_label_word;
 use crate::state::Count;
 use crate::state::DataCount;
 use crate::state::DataStep;
-use crate::writers::put_bytes;
+use crate::writers::put_string;
 use crate::writers::put_zeros;
 use numbers::imm::parse_imm;
 use numbers::imm::parse_imm64;
@@ -30,7 +31,11 @@ use numbers::operands::Operand;
 use numbers::operands::operand_at;
 use numbers::short::Short;
 use numbers::short::short_number;
+use numbers::strings::Quoted;
+use numbers::strings::Str;
+use numbers::strings::parse_string;
 use numbers::text::Span;
+use numbers::text::is_digit;
 use numbers::text::span_bytes;
 ghost use mathlib.Core.Path.{_≡_};
 ghost use mathlib.Core.Bool.{_||_};
@@ -39,14 +44,14 @@ ghost use mathlib.Core.List.{List, _++_};
 ghost use Prim.Native.Nat.{ℕ, _≤_};
 ghost use lib.ListN.{length, drop};
 ghost use lib.IntN.{pos};
+ghost use Rattle.numbers.specs.Text.{isDigit};
 ghost use Rattle.numbers.specs.Results.{mapped};
 ghost use Rattle.numbers.specs.Numbers.{imm64Of};
 ghost use Rattle.numbers.specs.code.Spans.{spanned};
 ghost use Rattle.numbers.specs.Literals.{stringOf};
+ghost use Rattle.numbers.specs.Strings.{stringBytes};
 ghost use Rattle.numbers.specs.code.Meanings.{imm64Value};
-ghost use Rattle.layout.specs.declared.directives.Store.the-variants.{Numbers};
-ghost use Rattle.layout.specs.declared.directives.Source.the-variants.{Stores};
-ghost use Rattle.layout.specs.Bytes.{isDigit};
+ghost use Rattle.layout.specs.declared.data.Readings.the-variants.{Numbers};
 ghost use Rattle.layout.specs.Limits.{textLimit, dataLimit};
 ghost use Rattle.layout.specs.Directives.{gap, isLabelStart, isLabelName, widthBytes, readAt, rangeAt, unread};
 ghost use Rattle.layout.specs.Directives.{numberOrName, operandWrite, stringWrite};
@@ -54,13 +59,13 @@ ghost use Rattle.layout.specs.Stage.{writeSize, addLabelWord, dataWrite,
 ghost use Rattle.layout.specs.code.Spans.{SpanWithin, LineIn};
 ghost use Rattle.layout.specs.code.Rows.{SourceFits, reservedOf, ReservedSmall};
 ghost use Rattle.layout.specs.code.Writes.{writeAt, WriteFits, readingAt, ReadingFits, writtenBytes, TextSized};
-ghost use Rattle.layout.specs.code.Writes.{sourceReadings, nextCode, NextIs};
+ghost use Rattle.layout.specs.code.Writes.{sourceReadings, readingsFrom, ReadingsFit, nextCode, NextIs};
 ghost use Rattle.layout.specs.code.Lent.{LabelWordsReady, LabelWordsSteps, DataReady, DataSteps};
 
-// What an operand writes: a number of a width, a part of the text and so many bytes 0, zeros, or the address of a label.
+// What an operand writes: a number of a width, a string of the text and so many bytes 0, zeros, or the address of a label.
 pub enum Write {
     Number(Width, i64),
-    Text(Span, usize),
+    Text(Quoted, usize),
     Gap(Reservation),
     Address(Span),
 }
@@ -129,7 +134,7 @@ fn is_label_start(b: u8) -> bool
 fn is_label_byte(b: u8) -> bool
     ensures { λ r. ⌜ r ≡ isLabelStart b || isDigit b ⌝ }
 {
-    is_label_start(b) | ((b'0' <= b) & (b <= b'9'))
+    is_label_start(b) | is_digit(b)
 }
 
 // Is s a name that a `.word` may have?
@@ -188,8 +193,9 @@ fn operand_write(text: &[u8], width: Width, operand: Span) -> Reading
     number_write(width, v)
 }
 
-// A string, and so many bytes 0 after it.
-fn string_write(text: &[u8], part: Span, zeros: usize) -> Reading
+// A string as document 01 has it: what stands between the quotes at its ends, unchanged (in as many bytes as it has), and so many bytes 0
+// after it.
+fn unchanged_write(text: &[u8], part: Span, zeros: usize) -> Reading
     requires { ⌜ SpanWithin (now text) part × (zeros ≤ 1) ⌝ }
     ensures { λ r. ⌜ (readingAt (now (text .entry)) r ≡ stringWrite zeros (stringOf (spanned (now (text .entry)) part)))
         × ReadingFits (now (text .entry)) r ⌝ }
@@ -197,11 +203,28 @@ fn string_write(text: &[u8], part: Span, zeros: usize) -> Reading
     let StrLit::Inner(inner) = parse_str_lit(span_bytes(text, part)) else {
         return Reading::Refused(9);
     };
-    let between = Span {
-        start: part.start + inner.start,
-        len: inner.len,
+    let between = part_in(text, part, inner);
+    let unchanged = Quoted {
+        part: between,
+        size: between.len,
     };
-    Reading::As(Write::Text(between, zeros))
+    Reading::As(Write::Text(unchanged, zeros))
+}
+
+// A string to its closing quote, its escapes decoded, and so many bytes 0 after it.
+fn string_write(text: &[u8], part: Span, zeros: usize) -> Reading
+    requires { ⌜ SpanWithin (now text) part × (zeros ≤ 1) ⌝ }
+    ensures { λ r. ⌜ (readingAt (now (text .entry)) r ≡ stringWrite zeros (stringBytes (spanned (now (text .entry)) part)))
+        × ReadingFits (now (text .entry)) r ⌝ }
+{
+    let Str::Is(quoted) = parse_string(span_bytes(text, part)) else {
+        return Reading::Refused(9);
+    };
+    let there = Quoted {
+        part: part_in(text, part, quoted.part),
+        size: quoted.size,
+    };
+    Reading::As(Write::Text(there, zeros))
 }
 
 fn gap_of(reserved: Reserved) -> Reading
@@ -221,7 +244,7 @@ impl Write {
     {
         match self {
             Write::Number(width, _) => width.bytes(),
-            Write::Text(part, zeros) => part.len + zeros,
+            Write::Text(quoted, zeros) => quoted.size + zeros,
             Write::Gap(reservation) => place_after(at, reservation) - at,
             Write::Address(_) => 4,
         }
@@ -234,9 +257,9 @@ impl Write {
     {
         match self {
             Write::Number(_, v) => put_number(dst, n, bits_of_i64(v)),
-            Write::Text(part, zeros) => {
-                put_bytes(dst, span_bytes(text, part));
-                let end = part.len;
+            Write::Text(quoted, zeros) => {
+                put_string(dst, span_bytes(text, quoted.part), quoted.size);
+                let end = quoted.size;
                 put_zeros(&mut dst[end..], zeros);
             }
             Write::Gap(_) => put_zeros(dst, n),
@@ -324,7 +347,7 @@ fn next_of(reading: Reading, after: usize) -> Next
 // The operand that begins at a place: most are short numbers.
 fn next_number(text: &[u8], width: Width, part: Span, at: usize) -> Next
     requires { ⌜ SpanWithin (now text) part ⌝ }
-    ensures { λ r. ⌜ NextIs (now (text .entry)) (Stores (Numbers width)) (spanned (now (text .entry)) part) at r ⌝ }
+    ensures { λ r. ⌜ NextIs (now (text .entry)) (Numbers width) (spanned (now (text .entry)) part) at r ⌝ }
 {
     let bytes = span_bytes(text, part);
     if let Short::Is(v, after) = short_number(bytes, at) {
@@ -333,39 +356,53 @@ fn next_number(text: &[u8], width: Width, part: Span, at: usize) -> Next
     let Operand::At(operand, after) = operand_at(bytes, at) else {
         return Next::End;
     };
-    let place = Span {
-        start: part.start + operand.start,
-        len: operand.len,
-    };
+    let place = part_in(text, part, operand);
     next_of(operand_write(text, width, place), after)
 }
 
-// What a line reads from a place on: numbers operand by operand, all else at once.
-fn next_write(text: &[u8], source: Source, part: Span, at: usize) -> Next
+// What a line reads: numbers operand by operand, all else at once, before the loop over them: there its readers would be inlined, and cost
+// each number some registers.
+enum Readings {
+    Numbers(Width),
+    Once(Reading),
+}
+
+fn readings_of(text: &[u8], source: Source, part: Span) -> Readings
     requires { ⌜ SpanWithin (now text) part × SourceFits source ⌝ }
-    ensures { λ r. ⌜ NextIs (now (text .entry)) source (spanned (now (text .entry)) part) at r ⌝ }
+    ensures { λ r. ⌜ (readingsFrom (now (text .entry)) r (spanned (now (text .entry)) part) 0 ≡ sourceReadings source (spanned (now (text .entry)) part))
+        × ReadingsFit (now (text .entry)) r ⌝ }
 {
     match source {
         Source::Stores(what) => match what {
-            Store::Numbers(width) => next_number(text, width, part, at),
-            Store::Text(zeros) => {
-                if 0 < at {
-                    return Next::End;
-                }
-                next_of(string_write(text, part, zeros), 1)
-            }
-            Store::Float => Next::Refused(21),
+            Store::Numbers(width) => Readings::Numbers(width),
+            Store::Text(zeros) => Readings::Once(unchanged_write(text, part, zeros)),
+            Store::Float => Readings::Once(Reading::Refused(21)),
         },
-        Source::Reserves(what) => {
+        Source::String(zeros) => Readings::Once(string_write(text, part, zeros)),
+        Source::Reserves(what) => Readings::Once(gap_of(reservation_of(
+            what,
+            span_bytes(text, part),
+        ))),
+    }
+}
+
+fn next_write(text: &[u8], readings: Readings, part: Span, at: usize) -> Next
+    requires { ⌜ SpanWithin (now text) part × ReadingsFit (now text) readings ⌝ }
+    ensures { λ r. ⌜ NextIs (now (text .entry)) readings (spanned (now (text .entry)) part) at r ⌝ }
+{
+    match readings {
+        Readings::Numbers(width) => next_number(text, width, part, at),
+        Readings::Once(reading) => {
             if 0 < at {
                 return Next::End;
             }
-            next_of(gap_of(reservation_of(what, span_bytes(text, part))), 1)
+            next_of(reading, 1)
         }
     }
 }
 
-// A directive and what follows its name. One loop for all of them: `data_write` is called at one place, and inlined there.
+// A directive and what follows its name. One loop for all of them: `data_write` is called at one place, and inlined there. What is read at
+// once is read before the loop, so that its readers are not inlined into the loop over numbers.
 pub fn data_line(
     text: &[u8],
     data_bytes: &mut [u8],
@@ -381,10 +418,11 @@ pub fn data_line(
     ensures { λ r. ⌜ DataSteps text «data_bytes» «label_words» room st r
         (dataLine room line (sourceReadings source (spanned (now (text .entry)) part))) ⌝ }
 {
+    let readings = readings_of(text, source, part);
     let mut now = st;
     let mut at = 0;
     loop {
-        match next_write(text, source, part, at) {
+        match next_write(text, readings, part, at) {
             Next::As(write, after) => {
                 match data_write(text, data_bytes, label_words, room, now, line, write) {
                     DataStep::Now(next) => {

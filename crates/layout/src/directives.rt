@@ -33,9 +33,10 @@ pub enum Store {
     Float,
 }
 
-// What a line of the data section writes: what is stored, or zeros.
+// What a line of the data section writes: what is stored; a string to its closing quote and so many bytes 0 after it; or zeros.
 pub enum Source {
     Stores(Store),
+    String(usize),
     Reserves(Reserve),
 }
 

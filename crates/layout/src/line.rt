@@ -13,6 +13,7 @@ use crate::pieces::part_to;
 use crate::pieces::trim_from;
 use crate::pieces::trim_to;
 use crate::pieces::word_len;
+use crate::scan::Cut;
 use crate::state::Section;
 use numbers::text::Span;
 use numbers::text::find;
@@ -24,17 +25,21 @@ use numbers::text::span_bytes;
 use numbers::text::starts_with;
 use numbers::text::trim;
 ghost use mathlib.Core.Path.{_≡_};
-ghost use Prim.Native.Nat.{_≤_};
+ghost use Prim.Native.Nat.{_≤_, _<_};
 ghost use lib.ListN.{length};
+ghost use Rattle.numbers.specs.Results.{value};
+ghost use Rattle.numbers.specs.Text.{byte, indexOf};
 ghost use Rattle.numbers.specs.code.Spans.{spanned};
+ghost use Rattle.layout.specs.declared.line.Statement.the-variants as kind;
 ghost use Rattle.layout.specs.Bytes.{countBefore};
 ghost use Rattle.layout.specs.Pieces.{Piece, fromByte};
-ghost use Rattle.layout.specs.Statements.{endsSectionName, sectionNamed, sectionOf, isSectionLine, sectionLine, symbolAfter};
+ghost use Rattle.layout.specs.Directives.{directives, rowIn};
+ghost use Rattle.layout.specs.Statements.{stores, own, endsSectionName, sectionNamed, sectionOf, isSectionLine, sectionLine, symbolAfter};
 ghost use Rattle.layout.specs.Statements.{equateOf, equOf, otherIn, assignmentOf, reservesIn, storesIn, directiveIn};
-ghost use Rattle.layout.specs.Statements.{unlabelledOf, parsed};
+ghost use Rattle.layout.specs.Statements.{unlabelledOf, lineOf};
 ghost use Rattle.layout.specs.code.Rows.{DirectiveNames};
 ghost use Rattle.layout.specs.code.Spans.{spanOf, pieceAt, statementCode, lineCode};
-ghost use Rattle.layout.specs.code.Cuts.{isMark, NoSignBefore, Parted};
+ghost use Rattle.layout.specs.code.Cuts.{isMark, cutLine, LineCut, NoSignBefore, isStringRow, isBare, Parted, Follows, saysIn};
 
 // An equate's name and expression; the expression of an `.equ` or `.set` parted at a blank is read with each run of
 // white space as one space.
@@ -231,22 +236,59 @@ fn reserves_in(section: Section, in_data: bool, what: Reserve, part: Span, rest:
     }
 }
 
-fn stores_in(section: Section, what: Store, part: Span, rest: Span) -> Statement
+// What is stored in data: a string's operand runs to the line's end, but behind a label with a quote it ends with the statement.
+fn stored(text: &[u8], cut: Cut, what: Store, part: Span, rest: Span) -> OwnStatement
+    requires { ⌜ LineCut (now text) cut × (cut .part .start ≤ part .start) × (part .start ≤ rest .start) × (rest .start ≤ cut .end) ⌝ }
+    ensures { λ r. ⌜ ((q : Piece) → rest ≡ spanOf q →
+        kind.Own r ≡ statementCode (saysIn (now (text .entry)) cut part (value (own (stores what q))))) ⌝ }
+{
+    let Store::Text(zeros) = what else {
+        return OwnStatement::InData(Source::Stores(what), rest);
+    };
+    let from = cut.part.start;
+    let to = part.start;
+    let before = &text[from..to];
+    if find(before, b'"') < before.len() {
+        return OwnStatement::InData(Source::Stores(what), rest);
+    }
+    let start = rest.start;
+    let operand = Span {
+        start,
+        len: cut.end - start,
+    };
+    OwnStatement::InData(Source::String(zeros), operand)
+}
+
+fn stores_in(
+    text: &[u8],
+    section: Section,
+    cut: Cut,
+    what: Store,
+    part: Span,
+    rest: Span,
+) -> Statement
+    requires { ⌜ LineCut (now text) cut × (cut .part .start ≤ part .start) × (part .start ≤ rest .start) × (rest .start ≤ cut .end) ⌝ }
     ensures { λ r. ⌜ ((p q : Piece) → part ≡ spanOf p → rest ≡ spanOf q →
-        r ≡ statementCode (storesIn section what p q)) ⌝ }
+        r ≡ statementCode (saysIn (now (text .entry)) cut part (storesIn section what p q))) ⌝ }
 {
     match section {
         Section::Text => Statement::Own(OwnStatement::Item(part)),
-        Section::Data => Statement::Own(OwnStatement::InData(Source::Stores(what), rest)),
+        Section::Data => Statement::Own(stored(text, cut, what, part, rest)),
         Section::Bss => Statement::Refused(12),
     }
 }
 
 // A directive of the table, whose name has so many bytes.
-fn directive_in(text: &[u8], section: Section, part: Span, spelling: Spelling) -> Statement
-    requires { ⌜ spelling .len ≤ length (spanned (now text) part) ⌝ }
-    ensures { λ r. ⌜ r ≡ statementCode (directiveIn section (spelling .directive) (spelling .«in_data»)
-        (pieceAt (now (text .entry)) part) (fromByte (spelling .len) (pieceAt (now (text .entry)) part))) ⌝ }
+fn directive_in(
+    text: &[u8],
+    section: Section,
+    cut: Cut,
+    part: Span,
+    spelling: Spelling,
+) -> Statement
+    requires { ⌜ LineCut (now text) cut × Follows (now text) cut part × (spelling .len ≤ length (spanned (now text) part)) ⌝ }
+    ensures { λ r. ⌜ r ≡ statementCode (saysIn (now (text .entry)) cut part (directiveIn section (spelling .directive) (spelling .«in_data»)
+        (pieceAt (now (text .entry)) part) (fromByte (spelling .len) (pieceAt (now (text .entry)) part)))) ⌝ }
 {
     let bytes = span_bytes(text, part);
     let n = spelling.len;
@@ -258,21 +300,29 @@ fn directive_in(text: &[u8], section: Section, part: Span, spelling: Spelling) -
         Directive::Ignored => Statement::Nothing,
         Directive::Equate => equ_of(text, trim_from(text, part, n)),
         Directive::Reserves(what) => reserves_in(section, spelling.in_data, what, whole, rest),
-        Directive::Stores(what) => stores_in(section, what, whole, rest),
+        Directive::Stores(what) => stores_in(text, section, cut, what, whole, rest),
     }
 }
 
-// A statement after its label, whose `=` is looked for from a byte on.
-fn unlabelled(names: &Names, text: &[u8], section: Section, part: Span, from: usize) -> Statement
-    requires { ⌜ DirectiveNames (now names) × NoSignBefore from (spanned (now text) part) ⌝ }
-    ensures { λ r. ⌜ r ≡ statementCode (unlabelledOf section (pieceAt (now (text .entry)) part)) ⌝ }
+// A cut line's statement after its label, whose `=` is looked for from a byte on.
+fn unlabelled(
+    names: &Names,
+    text: &[u8],
+    section: Section,
+    cut: Cut,
+    part: Span,
+    from: usize,
+) -> Statement
+    requires { ⌜ DirectiveNames (now names) × LineCut (now text) cut × Follows (now text) cut part
+        × NoSignBefore from (spanned (now text) part) ⌝ }
+    ensures { λ r. ⌜ r ≡ statementCode (saysIn (now (text .entry)) cut part (unlabelledOf section (pieceAt (now (text .entry)) part))) ⌝ }
 {
     let bytes = span_bytes(text, part);
     if bytes.len() == 0 {
         return Statement::Nothing;
     }
     match directive_of(names, bytes) {
-        Spelled::As(spelling) => directive_in(text, section, part, spelling),
+        Spelled::As(spelling) => directive_in(text, section, cut, part, spelling),
         Spelled::Nothing => assignment(text, section, part, from),
     }
 }
@@ -284,14 +334,42 @@ struct Labelled {
     from: usize,
 }
 
-// Before the mark stands neither a colon nor a `=`.
-fn part_label(text: &[u8], part: Span, mark: usize) -> Labelled
+// Does a statement begin with a string directive? Few lines ask: the table's look-up stays in one place, where it is inlined.
+fn begins_string(bytes: &[u8]) -> bool
+    ensures { λ r. ⌜ r ≡ isStringRow (rowIn directives (now (bytes .entry))) ⌝ }
+{
+    starts_with(bytes, b".ascii") | (starts_with(bytes, b".asciz") | starts_with(bytes, b".string"))
+}
+
+// In data: is what stands before a statement's first colon no label, but a string directive and a quote?
+fn is_bare(section: Section, bytes: &[u8], colon: usize) -> bool
+    requires { ⌜ (colon ≡ indexOf (byte ":") (now bytes)) × (colon < length (now bytes)) ⌝ }
+    ensures { λ r. ⌜ r ≡ isBare section (now (bytes .entry)) ⌝ }
+{
+    let Section::Data = section else {
+        return false;
+    };
+    if !begins_string(bytes) {
+        return false;
+    }
+    find(&bytes[..colon], b'"') < colon
+}
+
+// A statement parted at its first colon, if that ends a label; before the mark stands neither a colon nor a `=`.
+fn part_label(text: &[u8], section: Section, part: Span, mark: usize) -> Labelled
     requires { ⌜ mark ≡ countBefore isMark (spanned (now text) part) ⌝ }
-    ensures { λ r. ⌜ Parted (now (text .entry)) (pieceAt (now (text .entry)) part) r ⌝ }
+    ensures { λ r. ⌜ Parted (now (text .entry)) section (pieceAt (now (text .entry)) part) r ⌝ }
 {
     let bytes = span_bytes(text, part);
     let colon = find_from(bytes, mark, b':');
     if bytes.len() <= colon {
+        return Labelled {
+            label: LabelPart::Unnamed,
+            rest: part,
+            from: mark,
+        };
+    }
+    if is_bare(section, bytes, colon) {
         return Labelled {
             label: LabelPart::Unnamed,
             rest: part,
@@ -307,11 +385,12 @@ fn part_label(text: &[u8], part: Span, mark: usize) -> Labelled
     }
 }
 
-// The line whose statement stands at a part of the text: its label and what it says.
-pub fn line_of(names: &Names, text: &[u8], section: Section, part: Span, mark: usize) -> Line
-    requires { ⌜ DirectiveNames (now names) × (mark ≡ countBefore isMark (spanned (now text) part)) ⌝ }
-    ensures { λ r. ⌜ r ≡ lineCode (parsed section (pieceAt (now (text .entry)) part)) ⌝ }
+// A line as it was cut, in a section: its label and what it says.
+pub fn line_of(names: &Names, text: &[u8], section: Section, cut: Cut) -> Line
+    requires { ⌜ DirectiveNames (now names) × LineCut (now text) cut ⌝ }
+    ensures { λ r. ⌜ r ≡ lineCode (lineOf section (cutLine (now (text .entry)) cut)) ⌝ }
 {
+    let part = cut.part;
     let bytes = span_bytes(text, part);
     if is_section_line(bytes) {
         return Line {
@@ -319,8 +398,8 @@ pub fn line_of(names: &Names, text: &[u8], section: Section, part: Span, mark: u
             says: section_line(bytes),
         };
     }
-    let parted = part_label(text, part, mark);
+    let parted = part_label(text, section, part, cut.mark);
     let label = parted.label;
-    let says = unlabelled(names, text, section, parted.rest, parted.from);
+    let says = unlabelled(names, text, section, cut, parted.rest, parted.from);
     Line { label, says }
 }

@@ -4,19 +4,30 @@ use numbers::text::is_space;
 use numbers::text::span_bytes;
 use numbers::text::trim_span;
 ghost use mathlib.Core.Path.{_≡_};
-ghost use Prim.Native.Nat.{_≤_};
+ghost use Prim.Native.Nat.{_+_, _≤_};
 ghost use lib.ListN.{length, take};
 ghost use Rattle.numbers.specs.Text.{isSpace};
 ghost use Rattle.numbers.specs.code.Spans.{spanned};
 ghost use Rattle.layout.specs.Pieces.{piece, trimPiece, fromByte};
 ghost use Rattle.layout.specs.Bytes.{countBefore};
-ghost use Rattle.layout.specs.code.Spans.{spanOf, pieceAt};
+ghost use Rattle.layout.specs.code.Spans.{spanOf, pieceAt, SpanWithin};
 
 // A part without the white space at its ends.
 fn trim_part(text: &[u8], part: Span) -> Span
     ensures { λ r. ⌜ r ≡ spanOf (trimPiece (pieceAt (now (text .entry)) part)) ⌝ }
 {
     let inner = trim_span(span_bytes(text, part));
+    Span {
+        start: part.start + inner.start,
+        len: inner.len,
+    }
+}
+
+// A part of a part, by its own place in the text. The contract alone names the text.
+pub fn part_in(text: &[u8], part: Span, inner: Span) -> Span
+    requires { ⌜ SpanWithin (now text) part × SpanWithin (spanned (now text) part) inner ⌝ }
+    ensures { λ r. ⌜ r ≡ record { start = part .start + inner .start; len = inner .len } ⌝ }
+{
     Span {
         start: part.start + inner.start,
         len: inner.len,

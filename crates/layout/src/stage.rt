@@ -192,7 +192,7 @@ fn step_line(
     let rest = st.rest;
     let own = rest.own;
     let section = own.section;
-    let parsed = line_of(directives, text, section, cut.part, cut.mark);
+    let parsed = line_of(directives, text, section, cut);
     let label = parsed.label;
     let statement = parsed.says;
     match label_step(

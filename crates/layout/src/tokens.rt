@@ -2,6 +2,7 @@
 use numbers::imm::parse_signed_prefixed_i64;
 use numbers::ints::Imm64;
 use numbers::text::Span;
+use numbers::text::is_digit;
 use numbers::text::is_space;
 ghost use mathlib.Core.Path.{_≡_};
 ghost use Prim.Native.Nat.{_+_, _<_};
@@ -9,7 +10,6 @@ ghost use lib.ListN.{length, drop, getD};
 ghost use Rattle.numbers.specs.Text.{leading};
 ghost use Rattle.numbers.specs.Numbers.{numberOf};
 ghost use Rattle.layout.specs.declared.tokens.Sign.the-variants as sign;
-ghost use Rattle.layout.specs.Bytes.{isDigit};
 ghost use Rattle.layout.specs.Expressions.{isBlank, isNameByte, isNumberByte};
 ghost use Rattle.layout.specs.code.Tokens.{numeral, signOf, blankIn, TokenHere, TokenFrom};
 
@@ -38,12 +38,6 @@ fn is_blank(b: u8) -> bool
     ensures { λ r. ⌜ r ≡ isBlank b ⌝ }
 {
     (b == 9) | (b == b'\n') | (b == b'\r') | (b == b' ') | (b == b',')
-}
-
-fn is_digit(b: u8) -> bool
-    ensures { λ r. ⌜ r ≡ isDigit b ⌝ }
-{
-    (b'0' <= b) & (b <= b'9')
 }
 
 fn is_name_byte(b: u8) -> bool

@@ -2,6 +2,7 @@
 //! each other.
 
 pub mod generate;
+pub mod gnu;
 pub mod list;
 pub mod minimize;
 pub mod model;
@@ -11,3 +12,4 @@ pub mod pool;
 pub mod reference;
 pub mod run;
 pub mod shown;
+mod strings;

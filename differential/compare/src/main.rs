@@ -6,17 +6,21 @@ use std::{env, fs, io};
 
 use compare::generate::{Generator, Kind};
 use compare::model::{self, Lent};
-use compare::{list, pool, reference, run, shown};
+use compare::{gnu, list, pool, reference, run, shown};
 
 const USAGE: &str = "usage: compare run --seed S --count N [--kind K]
        compare one FILE BASE
        compare answer FILE BASE
        compare list FILE
+       compare gnu-strings [--seed S] [--count N]
        compare hostile --count N [--seed S]
-kinds: lines equates data pseudos mutate many built short limits hostile";
+kinds: lines equates data pseudos mutate many built short limits hostile strings";
 
 /// The seed of the list, and of runs that name none.
 const SEED: u64 = 1;
+
+/// The lines of strings that GNU as is asked for.
+const GNU_LINES: u64 = 100_000;
 
 fn main() -> ExitCode {
     let arguments: Vec<String> = env::args().skip(1).collect();
@@ -26,6 +30,7 @@ fn main() -> ExitCode {
         Some((&"one", [file, base])) => one(file, base),
         Some((&"answer", [file, base])) => answer(file, base),
         Some((&"list", [file])) => write_list(file),
+        Some((&"gnu-strings", options)) => gnu_strings(options),
         Some((&"hostile", options)) => hostile(options),
         _ => Err(invalid(USAGE)),
     };
@@ -74,14 +79,15 @@ fn number(word: &str) -> io::Result<u64> {
 
 /// How a count is parted among the kinds without a total, of 1,000. Those of
 /// `many` are long, so that few of them take as much time as many others.
-const SHARES: [(Kind, u64); 7] = [
-    (Kind::Lines, 220),
-    (Kind::Equates, 219),
-    (Kind::Data, 140),
-    (Kind::Pseudos, 180),
-    (Kind::Mutate, 160),
+const SHARES: [(Kind, u64); 8] = [
+    (Kind::Lines, 180),
+    (Kind::Equates, 179),
+    (Kind::Data, 120),
+    (Kind::Pseudos, 150),
+    (Kind::Mutate, 140),
     (Kind::Many, 1),
-    (Kind::Hostile, 80),
+    (Kind::Hostile, 70),
+    (Kind::Strings, 160),
 ];
 
 /// The sources of each kind: all limits and all that are built, the short ones
@@ -239,6 +245,21 @@ fn write_list(file: &str) -> io::Result<ExitCode> {
     })
 }
 
+/// Lines of strings, by the model and by GNU as.
+fn gnu_strings(words: &[&str]) -> io::Result<ExitCode> {
+    let options = options(words)?;
+    let lines = gnu::lines(options.seed, options.count.unwrap_or(GNU_LINES) as usize);
+    let differing = gnu::differing(&lines)?;
+    for difference in differing.iter().take(20) {
+        println!("{difference}");
+    }
+    println!("{} lines, {} differ", lines.len(), differing.len());
+    Ok(match differing.len() {
+        0 => ExitCode::SUCCESS,
+        _ => ExitCode::FAILURE,
+    })
+}
+
 /// Hostile bytes and the sources at limits, each on buffers of exactly the
 /// lent lengths, to be run under a tool that watches memory.
 #[cfg(feature = "library")]
@@ -249,7 +270,7 @@ fn hostile(words: &[&str]) -> io::Result<ExitCode> {
     let (limits, mut findings) = (Kind::Limits.total().unwrap_or(0), 0);
     let random = [
         Kind::Hostile,
-        Kind::Hostile,
+        Kind::Strings,
         Kind::Mutate,
         Kind::Lines,
         Kind::Hostile,

@@ -8,6 +8,7 @@ use differential::refusals::{number_of, LAST_OF_LINES};
 use differential::statements::{pseudo_words, statements};
 
 use crate::model::{Answer, Trace, EQUATE_SIZE, ITEM_SIZE, LABEL_SIZE};
+use crate::strings::with_bytes;
 
 /// What came of the comparison.
 pub enum Held {
@@ -45,22 +46,23 @@ pub fn hold(text: &[u8], base: u32, model: &Answer, trace: &Trace, probe: bool) 
     let Ok(text) = std::str::from_utf8(text) else {
         return Held::Differs("a byte above 127 without refusal 1".into());
     };
+    let asked = with_bytes(text);
     match model.number {
-        21 => above(text, base, model, "added 21"),
-        24 => match ask(text, base) {
+        21 => above(&asked, base, model, "added 21"),
+        24 => match ask(&asked, base) {
             Asked::Panicked("assembler.rs") => {
                 Held::Out("added 24: checked Rust panics in the sum")
             }
-            other => differs("the reference does not panic", &other, text),
+            other => differs("the reference does not panic", &other, &asked),
         },
-        42 => above(text, base, model, "added 42"),
-        43 => above(text, base, model, "added 43"),
-        44 => above(text, base, model, "added 44"),
-        45 => above(text, base, model, "added 45"),
-        46 => above(text, base, model, "added 46"),
-        47 => above(text, base, model, "added 47"),
-        48 => above(text, base, model, "added 48"),
-        _ => domain(text, base, model, trace, probe),
+        42 => above(&asked, base, model, "added 42"),
+        43 => above(&asked, base, model, "added 43"),
+        44 => above(&asked, base, model, "added 44"),
+        45 => above(&asked, base, model, "added 45"),
+        46 => above(&asked, base, model, "added 46"),
+        47 => above(&asked, base, model, "added 47"),
+        48 => above(&asked, base, model, "added 48"),
+        _ => domain(text, asked, base, model, trace, probe),
     }
 }
 
@@ -80,11 +82,63 @@ fn above(text: &str, base: u32, model: &Answer, reason: &'static str) -> Held {
     }
 }
 
-/// The model's answer is no added refusal.
-fn domain(text: &str, base: u32, model: &Answer, trace: &Trace, probe: bool) -> Held {
-    let (asked, nops) = (ask(text, base), || with_nops(text, trace));
-    let (asked, text, reason) = match asked {
-        Asked::Refused(error) if number_of(text, &error).is_none() => {
+/// What the reference was asked in a text's place, and what it answered.
+struct Put<'a> {
+    asked: Cow<'a, str>,
+    answer: Asked,
+    /// Why `nop` stands in place of the ordinary lines; none if it does not.
+    nops: Option<&'static str>,
+}
+
+/// The model's answer is no added refusal. In `asked` the text's strings may be
+/// given by their bytes.
+fn domain(
+    text: &str,
+    asked: Cow<'_, str>,
+    base: u32,
+    model: &Answer,
+    trace: &Trace,
+    probe: bool,
+) -> Held {
+    let strings = matches!(asked, Cow::Owned(_)).then_some(
+        "a string that is no longer the Rust's (W-201); compared with its bytes in its place",
+    );
+    let put = match put(text, asked, base, model, trace) {
+        Ok(put) => put,
+        Err(held) => return held,
+    };
+    let is_same = match &put.answer {
+        Asked::Refused(error) => {
+            let number = number_of(&put.asked, error);
+            number == Some(u32::from(model.number)) && error.line == model.line as usize
+        }
+        Asked::Laid(_) if model.number != 0 => {
+            return Held::Differs("the reference accepts".into());
+        }
+        Asked::Laid(program) => match laid_otherwise(text, base, &put, program, model, probe) {
+            Some(difference) => return Held::Differs(difference),
+            None => true,
+        },
+        Asked::Panicked(_) => false,
+    };
+    match (is_same, put.nops.or(strings)) {
+        (false, _) => differs("other than the model's", &put.answer, &put.asked),
+        (true, Some(reason)) => Held::Out(reason),
+        (true, None) => Held::Same,
+    }
+}
+
+/// Asks; and once more with `nop` in place of the ordinary lines, if that is what
+/// the reference stops at.
+fn put<'a>(
+    text: &str,
+    asked: Cow<'a, str>,
+    base: u32,
+    model: &Answer,
+    trace: &Trace,
+) -> Result<Put<'a>, Held> {
+    let reason = match ask(&asked, base) {
+        Asked::Refused(error) if number_of(&asked, &error).is_none() => {
             // Ordinary lines are read after the rounds, in order with pseudos.
             let is_above = match u32::from(model.number) {
                 0 => true,
@@ -92,54 +146,34 @@ fn domain(text: &str, base: u32, model: &Answer, trace: &Trace, probe: bool) -> 
                 _ => false,
             };
             if !is_above {
-                return Held::Differs(format!("the reference: {} at {}", error.msg, error.line));
+                let differs = format!("the reference: {} at {}", error.msg, error.line);
+                return Err(Held::Differs(differs));
             }
-            let nops = nops();
-            let asked = ask(&nops, base);
-            let reason = "an ordinary line that parse_instr or encode refuses; compared with nop in its place";
-            (asked, Cow::Owned(nops), Some(reason))
+            "an ordinary line that parse_instr or encode refuses; compared with nop in its place"
         }
         Asked::Panicked("pseudo.rs") if trace.edge => {
-            return Held::Out("a la address that checked Rust cannot form");
+            return Err(Held::Out("a la address that checked Rust cannot form"));
         }
         Asked::Panicked(_) if !trace.ordinary.is_empty() => {
-            let nops = nops();
-            let reason =
-                "an ordinary line at which the reference panics; compared with nop in its place";
-            (ask(&nops, base), Cow::Owned(nops), Some(reason))
+            "an ordinary line at which the reference panics; compared with nop in its place"
         }
-        asked => (asked, Cow::Borrowed(text), None),
+        answer => {
+            return Ok(Put {
+                asked,
+                answer,
+                nops: None,
+            })
+        }
     };
-    if let (Some(reason), Asked::Panicked("pseudo.rs"), true) = (reason, &asked, trace.edge) {
+    let asked = with_bytes(&with_nops(text, trace)).into_owned();
+    match ask(&asked, base) {
         // Both reasons: the la is behind the ordinary line.
-        return Held::Out(reason);
-    }
-    let is_same = match &asked {
-        Asked::Refused(error) => {
-            let number = number_of(&text, error);
-            number == Some(u32::from(model.number)) && error.line == model.line as usize
-        }
-        Asked::Laid(program) => {
-            if model.number != 0 {
-                return Held::Differs("the reference accepts".into());
-            }
-            if let Some(difference) = difference(&text, program, model, reason.is_some()) {
-                return Held::Differs(difference);
-            }
-            // With nops in the text the model's spans are not its own.
-            if probe && reason.is_none() {
-                if let Some(difference) = probed(&text, base, program, model) {
-                    return Held::Differs(difference);
-                }
-            }
-            true
-        }
-        Asked::Panicked(_) => false,
-    };
-    match (is_same, reason) {
-        (false, _) => differs("other than the model's", &asked, &text),
-        (true, Some(reason)) => Held::Out(reason),
-        (true, None) => Held::Same,
+        Asked::Panicked("pseudo.rs") if trace.edge => Err(Held::Out(reason)),
+        answer => Ok(Put {
+            asked: Cow::Owned(asked),
+            answer,
+            nops: Some(reason),
+        }),
     }
 }
 
@@ -212,14 +246,22 @@ fn with_nops(text: &str, trace: &Trace) -> String {
 
 // ---------- an accepted source ----------
 
-fn difference(text: &str, program: &Program, model: &Answer, nops: bool) -> Option<String> {
-    // What the model's spans say is asked of the text that they are of.
-    let theirs = reference_laid(text, program);
-    let ours = match nops {
-        true => return difference_but_spans(&theirs, model),
-        false => model_laid(text.as_bytes(), model),
-    };
+/// In what an accepted source differs. The model's spans are of the text itself.
+fn laid_otherwise(
+    text: &str,
+    base: u32,
+    put: &Put,
+    program: &Program,
+    model: &Answer,
+    probe: bool,
+) -> Option<String> {
+    let theirs = reference_laid(&put.asked, program);
+    if put.nops.is_some() {
+        return difference_but_spans(&theirs, model);
+    }
+    let ours = model_laid(text.as_bytes(), model);
     match theirs == ours {
+        true if probe => probed(text, &put.asked, base, program, model),
         true => None,
         false => Some(format!(
             "the reference: {theirs:?}\n  the model:     {ours:?}"
@@ -369,14 +411,14 @@ fn model_laid(text: &[u8], model: &Answer) -> Laid {
 /// The word of `li a0, 0`.
 const LI_A0_0: u32 = 0x0000_0513;
 
-/// Asks the reference for each equate's value: behind the text, the equate
-/// less its value must be 0, which a li shows. Names that no expression can
-/// hold are not asked for.
-fn probed(text: &str, base: u32, program: &Program, model: &Answer) -> Option<String> {
+/// Asks the reference for each equate's value: behind what it was asked, the
+/// equate less its value must be 0, which a li shows. Names that no expression
+/// can hold are not asked for.
+fn probed(text: &str, asked: &str, base: u32, program: &Program, model: &Answer) -> Option<String> {
     if model.equates.is_empty() || text.contains("probe") {
         return None;
     }
-    let mut with = format!("{text}\n.text\n");
+    let mut with = format!("{asked}\n.text\n");
     let mut count = 0;
     for record in model.equates.chunks(EQUATE_SIZE) {
         let value = i64::from_le_bytes(record[12..20].try_into().expect("eight bytes"));

@@ -1,6 +1,6 @@
 //! The model against what the papers say outright: document 01's twelve cases,
-//! the smallest inputs of docs/DECISIONS.md, and lines for each refusal
-//! from 2 to 20.
+//! the smallest inputs of docs/DECISIONS.md, lines for each refusal from 2 to
+//! 20, and change request W-201's strings.
 
 use compare::model::{assemble, Answer, Lent};
 
@@ -211,6 +211,196 @@ fn alignments_go_forward() {
         for alignment in 1..300 {
             let given = full(&format!(".bss\n.space {place}\n.align {alignment}"));
             assert!(given.counts.bss_size >= place, "{place} {alignment}");
+        }
+    }
+}
+
+// ---------- W-201 ----------
+
+/// The bytes of the line in data.
+fn stored(line: &str) -> Vec<u8> {
+    data(&format!(".data\n{line}"))
+}
+
+/// The line in data gets that number.
+fn refused_in_data(line: &str, number: u8) {
+    refused(&format!(".data\n{line}"), number, 1);
+}
+
+/// "Teams want `"12:40 #3;ok\n"` on the screen."
+#[test]
+fn strings_with_punctuation() {
+    for (line, bytes) in [
+        (r#".ascii "12:40 #3;ok\n""#, &b"12:40 #3;ok\n"[..]),
+        (r#"x: .asciz "12:40 #3;ok\n" # "x"#, b"12:40 #3;ok\n\0"),
+        (r#"x:.string"12:40 #3;ok\n";:"#, b"12:40 #3;ok\n\0"),
+        (r#".asciz ":""#, b":\0"),
+        (r##".ascii "#""##, b"#"),
+        (r#"x: .ascii ";" ;:"""#, b";"),
+        (r#".ascii """#, b""),
+        (r#".string """#, b"\0"),
+        (r#".ascii "a,b='c'""#, b"a,b='c'"),
+        (".ascii\t\x0b\x0c\r \"a\"\t\x0b\x0c\r ", b"a"),
+        (
+            "\t: \r.ascii\"\t\x0b\x0c\r \0\x7f\"",
+            b"\t\x0b\x0c\r \0\x7f",
+        ),
+    ] {
+        assert_eq!(stored(line), bytes, "{line}");
+    }
+}
+
+/// "Escapes follow the GNU as manual: `\b \f \n \r \t \\ \"` and one to three
+/// octal digits up to 377"; any other byte behind a backslash is 9.
+#[test]
+fn escapes() {
+    let known = *br#"bfnrt\""#;
+    for (letter, byte) in known.into_iter().zip(*b"\x08\x0c\n\r\t\\\"") {
+        let line = format!(".ascii \"{}{}\"", '\\', letter as char);
+        assert_eq!(stored(&line), [byte], "{line}");
+    }
+    let others = (0..128u8).filter(|b| !known.contains(b) && !b.is_ascii_digit() && *b != b'\n');
+    for letter in others {
+        refused_in_data(&format!(".ascii \"{}{}\"", '\\', letter as char), 9);
+    }
+}
+
+/// 8 and 9 are digits too, and three digits are the most: the fourth is a byte
+/// of its own.
+#[test]
+fn octals() {
+    let value = |digits: &str| digits.bytes().fold(0, |v, d| 8 * v + u32::from(d - b'0'));
+    for (width, count) in [(1, 10), (2, 100), (3, 1000)] {
+        for number in 0..count {
+            let digits = format!("{number:0width$}");
+            let line = |behind: &str| format!(".ascii \"\\{digits}{behind}\"");
+            match u8::try_from(value(&digits)) {
+                Ok(byte) => {
+                    assert_eq!(stored(&line("")), [byte], "{digits}");
+                    assert_eq!(stored(&line("a")), [byte, b'a'], "{digits}");
+                }
+                Err(_) => refused_in_data(&line(""), 9),
+            }
+        }
+    }
+    assert_eq!(stored(r#".ascii "\8""#), [8]);
+    assert_eq!(stored(r#".ascii "\08""#), [8]);
+    assert_eq!(stored(r#".ascii "\99""#), [81]);
+    assert_eq!(stored(r#".ascii "\377""#), [255]);
+    assert_eq!(stored(r#".ascii "\1234""#), [83, b'4']);
+    assert_eq!(stored(r#".asciz "\0018""#), [1, b'8', 0]);
+    refused_in_data(r#".ascii "\378""#, 9);
+    refused_in_data(r#".ascii "\400""#, 9);
+    refused_in_data(r#".ascii "\4000""#, 9);
+}
+
+/// "Another escape, an octal above 377, no closing quote, or text beside the
+/// string but for a comment after it, is 9."
+#[test]
+fn malformed_strings() {
+    for operand in [
+        "",
+        " a",
+        r#" ""#,
+        r#" "a"#,
+        r#" "\"#,
+        r#" "\""#,
+        r#" "a\""#,
+        r#" """"#,
+        r#" "a"b"#,
+        r#" "a" "b""#,
+        r#" "a","b""#,
+        r#" "a" \"#,
+        r#" x"a""#,
+        r#" 'a'"#,
+        r#" "a" :"#,
+        r#" "":"#,
+        r#" "" x: .byte 1"#,
+        r#"# "a""#,
+        r#" ;"a""#,
+        r#" "\q" # "a""#,
+        r#" "a # b"#,
+        r#"z "a""#,
+        r#"5 "a""#,
+        r#"s "a""#,
+        "\0\"a\"",
+    ] {
+        for directive in [".ascii", ".asciz", ".string"] {
+            refused_in_data(&format!("{directive}{operand}"), 9);
+            refused_in_data(&format!("x: {directive}{operand}"), 9);
+        }
+    }
+}
+
+/// Which lines have the new rule: "in the data section", "after an optional
+/// label whose colon precedes the first quote".
+#[test]
+fn lines_of_strings() {
+    for (line, number) in [
+        (r#".ascii:"a""#, 10),
+        (r#"x: y: .ascii ":""#, 10),
+        (".ascii a:b", 10),
+        (r#".section data: .ascii ":""#, 3),
+        (r#": .ascii:"a""#, 9),
+    ] {
+        refused_in_data(line, number);
+    }
+    // A label alone, as before.
+    let label = full(".data\n.ascii :");
+    assert_eq!((label.number, label.counts.labels), (0, 1));
+    assert_eq!(label.counts.data_bytes, 0);
+    // A label whose name is not what stands before the last colon.
+    let label = full(".data\nx: .ascii \"y: .ascii \"");
+    assert_eq!(label.labels[..8], [6, 0, 0, 0, 1, 0, 0, 0]);
+    assert_eq!(label.data, b"y: .ascii ");
+    // The first quote stands inside the label: document 01's rule whole.
+    assert_eq!(stored(r#"": .ascii "a\n""#), br"a\n");
+    assert_eq!(stored(r#"": .ascii "a" "b""#), br#"a" "b"#);
+    assert_eq!(stored(r#"x": .asciz ":""#), b":\0");
+    refused_in_data(r##"": .ascii "#""##, 9);
+    refused_in_data(r#"": .ascii "a" b"#, 9);
+    // Elsewhere quotes protect nothing.
+    refused(".bss\n.ascii \"a\"", 12, 1);
+    refused(".bss\n.ascii \":\"", 11, 1);
+    let text = full(".ascii \"a:b#c\"");
+    assert_eq!(
+        (text.number, text.counts.labels, text.counts.items),
+        (0, 1, 1)
+    );
+    refused(".section .rodata\n.ascii \"\\q\"", 9, 1);
+    assert_eq!(data(".section srodata\n.ascii \"a:b\""), b"a:b");
+    // A byte above 127 comes before all.
+    let above = answer(b".data\n.ascii \"\\q\"\n.ascii \"\xC8\"", 0, Lent::FULL);
+    assert_eq!((above.number, above.line), (1, 2));
+}
+
+/// A label's 45, then 9, then 42 by what is stored, its 0 included.
+#[test]
+fn what_is_lent_to_strings() {
+    let given = |line: &str, labels: usize, data: usize| {
+        let lent = Lent {
+            labels,
+            data,
+            ..Lent::FULL
+        };
+        answer(format!(".data\n{line}").as_bytes(), 0, lent).number
+    };
+    assert_eq!(given(r#"x: .ascii "\q""#, 15, 0), 45);
+    assert_eq!(given(r#"x: .ascii "\q""#, 16, 0), 9);
+    assert_eq!(given(r#"x: .ascii "\n""#, 15, 0), 45);
+    assert_eq!(given(r#"x: .ascii "\n""#, 16, 0), 42);
+    for (line, length) in [
+        (r#".ascii """#, 0),
+        (r#".ascii "\n\377:""#, 3),
+        (r#".asciz "\n\377:""#, 4),
+        (r#".string """#, 1),
+        (r#".string "\\" # \n"#, 2),
+        (r#"": .ascii "\n""#, 2),
+        (r#"": .asciz "\n""#, 3),
+    ] {
+        assert_eq!(given(line, 16, length), 0, "{line}");
+        if length > 0 {
+            assert_eq!(given(line, 16, length - 1), 42, "{line}");
         }
     }
 }

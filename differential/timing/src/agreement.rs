@@ -1,5 +1,6 @@
 //! That both contenders accept a source and answer the same of it: else they
-//! did not do the same work, and their times say nothing.
+//! did not do the same work, and their times say nothing. Of a source for ours
+//! alone, that it is accepted.
 
 use crate::ours::{Answer, Buffers};
 use crate::reference::{assemble, Program};
@@ -7,11 +8,8 @@ use crate::reference::{assemble, Program};
 /// Nothing, or the first thing in which they differ.
 pub fn agree(text: &str) -> Result<(), String> {
     let mut buffers = Buffers::new();
-    let ours = buffers.assemble(text);
+    let ours = taken(text, &mut buffers)?;
     let theirs = assemble(text).map_err(|error| format!("the reference refuses it: {error}"))?;
-    if ours.number != 0 {
-        return Err(format!("ours refuses it: {ours:?}"));
-    }
     let parts = [
         ("words", same_words(&ours, &buffers, &theirs)),
         (
@@ -29,6 +27,18 @@ pub fn agree(text: &str) -> Result<(), String> {
     match parts.iter().find(|part| !part.1) {
         Some((what, _)) => Err(format!("not the same {what}")),
         None => Ok(()),
+    }
+}
+
+/// Nothing, or what ours refuses it by.
+pub fn accepted(text: &str) -> Result<(), String> {
+    taken(text, &mut Buffers::new()).map(|_| ())
+}
+
+fn taken(text: &str, buffers: &mut Buffers) -> Result<Answer, String> {
+    match buffers.assemble(text) {
+        ours if ours.number == 0 => Ok(ours),
+        ours => Err(format!("ours refuses it: {ours:?}")),
     }
 }
 

@@ -6,7 +6,7 @@ use std::{fs, io};
 
 use timing::figures::{grouped, ratio};
 use timing::ours::Buffers;
-use timing::sources::Source;
+use timing::sources::{Goal, Source};
 
 use crate::callgrind::{counted, Scratch};
 
@@ -28,6 +28,10 @@ pub fn table(sources: &[Source]) -> io::Result<()> {
 fn row(source: &Source, file: &Path) -> io::Result<()> {
     fs::write(file, &source.text)?;
     let ours = instructions("ours", file)?;
+    if source.goal == Goal::Alone {
+        println!("| {} | {} | - | - | - | - |", source.what, grouped(ours));
+        return Ok(());
+    }
     let theirs = instructions("reference", file)?;
     let ordinary = match ordinary_lines(&source.text) {
         0 => 0,

@@ -5,7 +5,7 @@
 use std::fmt::Write;
 use std::{fs, io};
 
-use crate::agreement::agree;
+use crate::agreement::{accepted, agree};
 use crate::ours::TEXT_LIMIT;
 
 const LABEL_LIMIT: usize = 1024;
@@ -23,6 +23,8 @@ pub enum Goal {
     Worst,
     /// None: a file, or what is measured to be known.
     Open,
+    /// None: the reference does not take it so, and ours is measured alone.
+    Alone,
 }
 
 impl Goal {
@@ -30,7 +32,7 @@ impl Goal {
         match self {
             Goal::Ordinary => Some(10.0),
             Goal::Worst => Some(5.0),
-            Goal::Open => None,
+            Goal::Open | Goal::Alone => None,
         }
     }
 }
@@ -70,7 +72,10 @@ const KINDS: &[Kind] = &[
     ("odd-numbers", "numbers with signs and odd bases", Goal::Worst, odd_numbers),
     ("long-numbers", "numbers of 200 digits, zeros before them", Goal::Worst, long_numbers),
     ("strings", "strings", Goal::Worst, strings),
+    ("strings-marks", "strings with escapes and punctuation", Goal::Alone, strings_marks),
     ("long-string", "one string to the end of the text", Goal::Worst, long_string),
+    ("long-string-escape", "one string to the end of the text, an escape at its end", Goal::Alone, long_string_escape),
+    ("long-string-escapes", "one string of escapes to the end of the text", Goal::Alone, long_string_escapes),
     ("directives", "sections, alignments, spaces, `.globl`", Goal::Worst, directives),
     ("comments", "comments", Goal::Worst, comments),
     ("long-comment", "one comment to the end of the text", Goal::Worst, long_comment),
@@ -106,7 +111,7 @@ pub fn names() -> Vec<String> {
     KINDS.iter().map(|kind| kind.0.to_string()).collect()
 }
 
-/// The chosen sources, or all kinds. Both contenders accept each.
+/// The chosen sources, or all kinds. Both contenders accept each, or ours alone.
 pub fn sources(chosen: &[&str]) -> io::Result<Vec<Source>> {
     let all = names();
     let chosen = match chosen {
@@ -120,7 +125,11 @@ pub fn sources(chosen: &[&str]) -> io::Result<Vec<Source>> {
 }
 
 fn check(source: &Source) -> io::Result<()> {
-    agree(&source.text).map_err(|why| io::Error::other(format!("{}: {why}", source.name)))
+    let checked = match source.goal {
+        Goal::Alone => accepted(&source.text),
+        _ => agree(&source.text),
+    };
+    checked.map_err(|why| io::Error::other(format!("{}: {why}", source.name)))
 }
 
 /// A kind by its name, or else a file by its path.
@@ -333,12 +342,27 @@ fn strings() -> String {
     })
 }
 
+fn strings_marks() -> String {
+    data(|k| match k % 3 {
+        0 => format!("    .asciz \"12:40 #{k};ok\\n\"\n"),
+        1 => "    .ascii \"\\ttemperature: 21\\260C; pressure # hPa\\r\\n\"\n".to_string(),
+        _ => format!("    .string \"\\\"{k}\\\" \\\\ \\1\\08\\377\" # as it is said\n"),
+    })
+}
+
+const LONG_STRING: (&str, &str) = (".data\n.ascii \"", "temperature, pressure and height, ");
+
 fn long_string() -> String {
-    to_the_end(
-        ".data\n.ascii \"",
-        "temperature, pressure and height, ",
-        "\"\n",
-    )
+    to_the_end(LONG_STRING.0, LONG_STRING.1, "\"\n")
+}
+
+fn long_string_escape() -> String {
+    to_the_end(LONG_STRING.0, LONG_STRING.1, "\\n\"\n")
+}
+
+/// Of an even number of bytes, so that no escape is parted.
+fn long_string_escapes() -> String {
+    to_the_end(LONG_STRING.0, "\\n\\\"", "\"\n")
 }
 
 fn directives() -> String {

@@ -19,10 +19,12 @@ const ROUNDS: usize = 9;
 /// What the calls of one contender's turn take together, at least.
 const TURN: Duration = Duration::from_millis(2);
 
-/// Ours, the reference's, and its comment scans': a call's time in seconds.
+/// Ours, the reference's, and its comment scans': a call's time in seconds. The
+/// reference has none where ours is measured alone.
 type Times = [f64; 3];
 
-/// Prints the table; gives how many times as fast ours is on each source.
+/// Prints the table; gives how many times as fast ours is on each source, which
+/// is no number where ours is measured alone.
 pub fn table(sources: &[Source]) -> Vec<f64> {
     let times = median_times(sources);
     println!("| source | bytes | ours, µs | reference, µs | its comment scans, µs | times as fast | without the scans | goal |");
@@ -35,10 +37,18 @@ pub fn table(sources: &[Source]) -> Vec<f64> {
 }
 
 fn row(source: &Source, [ours, theirs, scans]: Times) -> f64 {
+    let bytes = grouped(source.text.len() as u64);
+    if source.goal == Goal::Alone {
+        println!(
+            "| {} | {bytes} | {:.1} | - | - | - | - |  |",
+            source.what,
+            ours * 1e6
+        );
+        return f64::NAN;
+    }
     println!(
-        "| {} | {} | {:.1} | {:.1} | {:.1} | {} | {} | {} |",
+        "| {} | {bytes} | {:.1} | {:.1} | {:.1} | {} | {} | {} |",
         source.what,
-        grouped(source.text.len() as u64),
         ours * 1e6,
         theirs * 1e6,
         scans * 1e6,
@@ -91,14 +101,15 @@ fn median_times(sources: &[Source]) -> Vec<Times> {
     let mut rounds: Vec<Vec<Times>> = sources.iter().map(|_| Vec::new()).collect();
     for _ in 0..PASSES {
         for (source, rounds) in sources.iter().zip(&mut rounds) {
-            rounds.extend(pass(&source.text));
+            rounds.extend(pass(source));
         }
     }
     rounds.iter().map(|rounds| median(rounds)).collect()
 }
 
 /// The rounds of one pass on a source.
-fn pass(text: &str) -> Vec<Times> {
+fn pass(source: &Source) -> Vec<Times> {
+    let text = source.text.as_str();
     let mut buffers = Buffers::new();
     let mut calls: [&mut dyn FnMut(); 3] = [
         &mut || {
@@ -109,11 +120,15 @@ fn pass(text: &str) -> Vec<Times> {
         },
         &mut || reference::comment_scans(black_box(text)),
     ];
-    let counts = calls.each_mut().map(|call| enough_calls(call));
+    let calls = match source.goal {
+        Goal::Alone => &mut calls[..1],
+        _ => &mut calls[..],
+    };
+    let counts: Vec<u32> = calls.iter_mut().map(|call| enough_calls(call)).collect();
     let mut round = || {
-        let mut times = [0.0; 3];
-        for ((time, call), count) in times.iter_mut().zip(&mut calls).zip(counts) {
-            *time = turn(call, count).as_secs_f64() / f64::from(count);
+        let mut times = [f64::NAN; 3];
+        for ((time, call), count) in times.iter_mut().zip(calls.iter_mut()).zip(&counts) {
+            *time = turn(call, *count).as_secs_f64() / f64::from(*count);
         }
         times
     };

@@ -64,6 +64,7 @@ FewZeros Float = Unit
 
 abbrev pub SourceFits : Source → Type 0
 SourceFits (source.Stores x) = FewZeros x
+SourceFits (source.String zeros) = zeros ≤ 1
 SourceFits (source.Reserves x) = Unit
 
 -- a name is no longer than the statement that begins with it

@@ -18,7 +18,7 @@ use Rattle.layout.specs.declared.line.LabelPart.the-variants as part
 use Rattle.layout.specs.declared.line.Line as line
 use Rattle.layout.specs.Limits.{textLimit}
 use Rattle.layout.specs.Pieces.{Piece, piece}
-use Rattle.layout.specs.Statements.{OwnStatement, item, stores, reserves, reservesBss, Statement, nothing, enters, equate, own, Line}
+use Rattle.layout.specs.Statements.{OwnStatement, item, stores, string, reserves, reservesBss, Statement, nothing, enters, equate, own, Line}
 use Rattle.layout.specs.State.{Equate}
 use Rattle.layout.specs.code.Rows.{SourceFits}
 
@@ -44,6 +44,7 @@ LineIn t line = (length t ≤ textLimit) × (line < length t)
 abbrev pub ownCode : OwnStatement → own-code.OwnStatement
 ownCode (item p) = own-kind.Item (spanOf p)
 ownCode (stores x p) = own-kind.InData (source.Stores x) (spanOf p)
+ownCode (string zeros p) = own-kind.InData (source.String zeros) (spanOf p)
 ownCode (reserves x p) = own-kind.InData (source.Reserves x) (spanOf p)
 ownCode (reservesBss x p) = own-kind.ReservesBss x (spanOf p)
 
@@ -58,6 +59,7 @@ statementCode (refused n) = kind.Refused n
 abbrev pub ownAt : List ℕ → own-code.OwnStatement → OwnStatement
 ownAt t (own-kind.Item q) = item (pieceAt t q)
 ownAt t (own-kind.InData (source.Stores x) q) = stores x (pieceAt t q)
+ownAt t (own-kind.InData (source.String zeros) q) = string zeros (pieceAt t q)
 ownAt t (own-kind.InData (source.Reserves x) q) = reserves x (pieceAt t q)
 ownAt t (own-kind.ReservesBss x q) = reservesBss x (pieceAt t q)
 

@@ -1,6 +1,6 @@
 //! Single sources that show one point each: the smallest inputs of
-//! docs/DECISIONS.md and docs/DIFFERENCES.md, and each refusal at its first
-//! place, before and behind others.
+//! docs/DECISIONS.md and docs/DIFFERENCES.md, each escape, and each refusal at
+//! its first place, before and behind others.
 
 use super::Case;
 use crate::model::{Lent, EQUATE_SIZE, ITEM_SIZE, LABEL_SIZE};
@@ -88,6 +88,65 @@ const FULL: &[&[u8]] = &[
     b".bss\n.space 1048577",
     b".bss\n.byte 1",
     b"n = 5\nli a0, n\nx: nop",
+    // Strings.
+    b".data\n.ascii \"12:40 #3;ok\\n\"",
+    b".data\nx: .asciz \"12:40 #3;ok\\n\" # \"",
+    b".data\n.ascii \"\\b\"",
+    b".data\n.ascii \"\\f\"",
+    b".data\n.ascii \"\\n\"",
+    b".data\n.ascii \"\\r\"",
+    b".data\n.ascii \"\\t\"",
+    b".data\n.ascii \"\\\\\"",
+    b".data\n.ascii \"\\\"\"",
+    b".data\n.ascii \"\\0\"",
+    b".data\n.ascii \"\\8\"",
+    b".data\n.ascii \"\\08\"",
+    b".data\n.ascii \"\\99\"",
+    b".data\n.ascii \"\\101\"",
+    b".data\n.ascii \"\\1234\"",
+    b".data\n.ascii \"\\369\"",
+    b".data\n.ascii \"\\377\"",
+    b".data\n.ascii \"\\3777\"",
+    b".data\n.ascii \"\\378\"",
+    b".data\n.ascii \"\\400\"",
+    b".data\n.ascii \"\\q\"",
+    b".data\n.ascii \"\\x41\"",
+    b".data\n.ascii \"\\'\"",
+    b".data\n.ascii \":\"",
+    b".data\n.ascii \"#\"",
+    b".data\n.ascii \";\"",
+    b".data\n.ascii \"",
+    b".data\n.ascii \"\\",
+    b".data\n.ascii \"\\\"",
+    b".data\n.ascii \"\"\"",
+    b".data\n.ascii \"a\"b",
+    b".data\n.ascii \"a\" \"b\"",
+    b".data\n.ascii a\"b\"",
+    b".data\n.ascii \"a\"#\"",
+    b".data\n.ascii \"a\" ;b",
+    b".data\n.ascii \"a\"\r\n",
+    b".data\n.ascii\"a\"",
+    b".data\n.ascii # \"a\"",
+    b".data\n.asciiz \"a\"",
+    b".data\n.strings \"a\"",
+    b".data\n.asciz5 \"a\"",
+    b".data\n.ascii \"a\" :",
+    b".data\n.ascii \"\":",
+    b".data\n.ascii \"\" x: .byte 1",
+    b".data\n.ascii:\"a\"",
+    b".data\n.ascii a:b",
+    b".data\n.ascii :",
+    b".data\nx: y: .ascii \":\"",
+    b".data\nx: .ascii \":\" :",
+    b".data\n.section data: .ascii \":\"",
+    b".data\n\": .ascii \"a\\n\"",
+    b".data\n\": .ascii \"a\" \"b\"",
+    b".data\n\": .ascii \"#\"",
+    b".data\nx\": .asciz \":\"",
+    b".data\n.ascii \"\xC8\"",
+    b".bss\n.ascii \"#\"",
+    b".bss\n.ascii \":\"",
+    b".ascii \":\"",
     // Equates.
     b"n = 0x",
     b"n = u + 5f",
@@ -257,6 +316,106 @@ const OTHERS: &[(&[u8], u32, Lent)] = &[
         0,
         Lent {
             data: 0,
+            ..Lent::FULL
+        },
+    ),
+    (
+        b".data\n.ascii \"\\n\\n\"",
+        0,
+        Lent {
+            data: 2,
+            ..Lent::FULL
+        },
+    ),
+    (
+        b".data\n.ascii \"\\n\\n\"",
+        0,
+        Lent {
+            data: 1,
+            ..Lent::FULL
+        },
+    ),
+    (
+        b".data\n.asciz \"\\377\"",
+        0,
+        Lent {
+            data: 2,
+            ..Lent::FULL
+        },
+    ),
+    (
+        b".data\n.asciz \"\\377\"",
+        0,
+        Lent {
+            data: 1,
+            ..Lent::FULL
+        },
+    ),
+    (
+        b".data\n.string \"\"",
+        0,
+        Lent {
+            data: 1,
+            ..Lent::FULL
+        },
+    ),
+    (
+        b".data\n.string \"\"",
+        0,
+        Lent {
+            data: 0,
+            ..Lent::FULL
+        },
+    ),
+    (
+        b".data\n\": .ascii \"a\\n\"",
+        0,
+        Lent {
+            data: 3,
+            ..Lent::FULL
+        },
+    ),
+    (
+        b".data\n\": .ascii \"a\\n\"",
+        0,
+        Lent {
+            data: 2,
+            ..Lent::FULL
+        },
+    ),
+    (
+        b".data\nx: .ascii \"\\q\"",
+        0,
+        Lent {
+            data: 0,
+            labels: 0,
+            ..Lent::FULL
+        },
+    ),
+    (
+        b".data\nx: .ascii \"\\q\"",
+        0,
+        Lent {
+            data: 0,
+            labels: LABEL_SIZE,
+            ..Lent::FULL
+        },
+    ),
+    (
+        b".data\nx: .ascii \"\\n\"",
+        0,
+        Lent {
+            data: 0,
+            labels: LABEL_SIZE,
+            ..Lent::FULL
+        },
+    ),
+    (
+        b".data\n\": .ascii \"#\"",
+        0,
+        Lent {
+            data: 0,
+            labels: 0,
             ..Lent::FULL
         },
     ),

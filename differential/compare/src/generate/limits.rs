@@ -98,6 +98,7 @@ fn built() -> Vec<Case> {
     let mut cases = Cases(Vec::new());
     texts(&mut cases);
     data(&mut cases);
+    strings(&mut cases);
     bss(&mut cases);
     words(&mut cases);
     tables(&mut cases);
@@ -125,6 +126,9 @@ fn texts(cases: &mut Cases) {
             (".data\n.byte 1", ",1"),
             (".data\n.word w", ",w"),
             (".data\n.asciz \"", "\""),
+            (".data\n.asciz \"", "\\"),
+            (".data\n.ascii \"", "\\n"),
+            (".data\nx: .ascii \"", "#"),
             ("li a0, ", " 5"),
             ("li a0,5", ","),
             ("push", " "),
@@ -182,6 +186,11 @@ fn data(cases: &mut Cases) {
         (65_536, ".ascii \"\""),
         (65_534, ".ascii \"ab\""),
         (65_535, ".ascii \"ab\""),
+        (65_534, ".ascii \"\\n:\""),
+        (65_535, ".ascii \"\\n:\""),
+        (65_534, ".asciz \"\\377\""),
+        (65_535, ".asciz \"\\377\""),
+        (65_536, ".ascii \"\\378\""),
         (65_535, ".align 2"),
         (65_535, ".align 65536"),
         (65_536, ".align 65536"),
@@ -194,6 +203,37 @@ fn data(cases: &mut Cases) {
         (65_536, ".align 131072"),
     ] {
         cases.full(format!(".data\n.space {size}\n{line}\nz:\n"));
+    }
+}
+
+/// One string to the end of the text, or to a byte less or more; and blanks of
+/// each kind at each place of a line.
+fn strings(cases: &mut Cases) {
+    for length in [TEXT - 1, TEXT, TEXT + 1] {
+        for piece in ["a", ":", "\\n", "\\\"", "\\\\", "\\8", "\\377", "#;a"] {
+            for end in ["\"", "\\t\"", "\\400\"", "\"x"] {
+                let mut text = ".data\n.ascii \"".to_string();
+                while text.len() + piece.len() + end.len() <= length {
+                    text.push_str(piece);
+                }
+                let left = length - text.len() - end.len();
+                cases.add(text + &" ".repeat(left) + end, 0, Lent::FULL);
+            }
+        }
+    }
+    for directive in [".ascii", ".asciz", ".string"] {
+        for white in ["\t", "\x0b", "\x0c", "\r", " "] {
+            for place in 0..5 {
+                let mut at = [""; 5];
+                at[place] = white;
+                let [first, label, colon, name, quote] = at;
+                cases.add(
+                    format!(".data\n{first}x{label}:{colon}{directive}{name}\":\\n\"{quote}#\""),
+                    0,
+                    Lent::FULL,
+                );
+            }
+        }
     }
 }
 

@@ -10,6 +10,7 @@ pub mod parts;
 pub mod rounds;
 pub mod settings;
 pub mod short;
+pub mod strings;
 
 use differential::random::Random;
 
@@ -48,10 +49,12 @@ pub enum Kind {
     Limits,
     /// Bytes of every kind.
     Hostile,
+    /// Lines of strings.
+    Strings,
 }
 
 impl Kind {
-    pub const ALL: [Kind; 10] = [
+    pub const ALL: [Kind; 11] = [
         Kind::Lines,
         Kind::Equates,
         Kind::Data,
@@ -62,6 +65,7 @@ impl Kind {
         Kind::Short,
         Kind::Limits,
         Kind::Hostile,
+        Kind::Strings,
     ];
 
     pub fn name(self) -> &'static str {
@@ -76,6 +80,7 @@ impl Kind {
             Kind::Short => "short",
             Kind::Limits => "limits",
             Kind::Hostile => "hostile",
+            Kind::Strings => "strings",
         }
     }
 
@@ -135,10 +140,12 @@ impl Generator {
             }
             Kind::Limits => return limits::case(index % limits::total()),
             Kind::Hostile => hostile::text(&mut random),
+            Kind::Strings => strings::text(&mut random),
         };
         let base = settings::base(&mut random);
         let lent = match kind {
             Kind::Many => settings::long(&mut random),
+            Kind::Strings => strings::lent(&mut random, &text, base),
             _ => settings::lent(&mut random),
         };
         let counts = settings::counts(&mut random);

@@ -101,7 +101,7 @@ fn swap_words(lines: &mut [Vec<u8>], one: usize, other: usize, random: &mut Rand
 /// Bytes that mean something somewhere.
 const TELLING: &[u8] = b" \t\n\r\x0b\x0c,:;#=+-.'\"()0123456789xXbaAli_$\\\0\x7f";
 
-fn change_bytes(text: &mut Vec<u8>, random: &mut Random) {
+pub fn change_bytes(text: &mut Vec<u8>, random: &mut Random) {
     if text.is_empty() {
         return;
     }

@@ -10,7 +10,7 @@ pub struct Topic {
     pub longest: u32,
 }
 
-pub const TOPICS: [Topic; 17] = [
+pub const TOPICS: [Topic; 23] = [
     Topic {
         name: "equates by the byte",
         before: "",
@@ -128,9 +128,63 @@ pub const TOPICS: [Topic; 17] = [
     Topic {
         name: "strings",
         before: ".data\n.asciz",
-        pieces: &["\"", "a", ",", ":", ";", " ", "\\", "\t", "#"],
+        pieces: &["\"", "\\", "n", "8", "3", ":", "#", ";", "a", " ", "\t"],
         after: "\n",
         longest: 6,
+    },
+    Topic {
+        name: "strings behind a label",
+        before: ".data\nx: .ascii",
+        pieces: &["\"", "\\", "n", "8", "3", ":", "#", ";", "a", " ", ","],
+        after: "\ny:",
+        longest: 6,
+    },
+    Topic {
+        name: "escapes",
+        before: ".data\n.ascii \"",
+        pieces: &["\\", "\"", "0", "3", "4", "7", "8", "n", "q", " "],
+        after: "\"\nx:",
+        longest: 6,
+    },
+    Topic {
+        name: "octal digits",
+        before: ".data\n.string \"\\",
+        pieces: &["0", "1", "2", "3", "4", "5", "6", "7", "8", "9"],
+        after: "\"",
+        longest: 4,
+    },
+    Topic {
+        name: "labels of strings",
+        before: ".data\n",
+        pieces: &["\"", ":", ".ascii", ".asciz ", "a", " ", "#", "\\n", "\\\""],
+        after: "\ny:",
+        longest: 6,
+    },
+    Topic {
+        name: "blanks beside strings",
+        before: ".data\n.string",
+        pieces: &["\t", "\x0b", "\x0c", "\r", " ", "\"a\"", "#", "x", "\0"],
+        after: "\ny:",
+        longest: 5,
+    },
+    Topic {
+        name: "strings by the section",
+        before: "",
+        pieces: &[
+            ".data\n",
+            ".text\n",
+            ".bss\n",
+            ".section .rodata\n",
+            ".ascii \"a:b\"\n",
+            "x: .asciz \"#\\n\"\n",
+            ".string \"a\n",
+            "\": .ascii \"a\\n\"\n",
+            ".word x\n",
+            ".align 4\n",
+            "x:\n",
+        ],
+        after: "",
+        longest: 5,
     },
     Topic {
         name: "pseudos",

@@ -1,11 +1,11 @@
-//! Document 01's "Lines to places": one line after the other, until the first
-//! refusal.
+//! Document 01's "Lines to places", and change request W-201's lines of strings:
+//! one line after the other, until the first refusal.
 
 use std::collections::HashMap;
 
 use super::marks::mark;
 use super::pseudos::{self, Kind};
-use super::text::{imm, imm64, is_white, one_spaced, string, trim, Piece};
+use super::text::{display_string, imm, imm64, is_white, one_spaced, string, trim, Piece};
 use super::{Lent, Refusal, EQUATE_SIZE, ITEM_SIZE, LABEL_SIZE};
 
 #[derive(Clone, Copy, Debug, PartialEq, Eq)]
@@ -95,9 +95,10 @@ pub fn read(text: &[u8], lent: Lent) -> Result<Lines<'_>, Refusal> {
     let mut at = 0;
     for (line, bytes) in text.split(|byte| *byte == b'\n').enumerate() {
         reader.line = line;
-        let statement = Piece { at, bytes }.cut(b';').cut(b'#').trim();
+        let raw = Piece { at, bytes };
+        let statement = raw.cut(b';').cut(b'#').trim();
         if !statement.is_empty() {
-            let done = reader.whole_line(statement);
+            let done = reader.whole_line(statement, raw);
             done.map_err(|number| Refusal::new(number, line))?;
         }
         at += bytes.len() + 1;
@@ -121,8 +122,9 @@ const IGNORED: [&str; 7] = [
 ];
 
 impl<'a> Reader<'a> {
-    /// A line that is taken whole, or a label and what follows it.
-    fn whole_line(&mut self, line: Piece<'a>) -> Done {
+    /// A line that is taken whole, or a label and what follows it. `raw` is the
+    /// same line before it was cut.
+    fn whole_line(&mut self, line: Piece<'a>, raw: Piece<'a>) -> Done {
         match line.bytes {
             b".text" => {
                 mark!(LineText);
@@ -143,6 +145,11 @@ impl<'a> Reader<'a> {
         }
         if let Some(rest) = line.strip(".section") {
             return self.named_section(rest.trim().bytes);
+        }
+        if self.section == Section::Data {
+            if let Some(string) = string_line(line, raw) {
+                return self.string(string);
+            }
         }
         let Some(colon) = line.find(b':') else {
             return self.statement(line);
@@ -396,27 +403,43 @@ impl<'a> Reader<'a> {
             mark!(Float);
             return Err(21);
         }
-        if let Some(rest) = after(".asciz").or_else(|| after(".string")) {
-            let Some(inner) = string(rest) else {
-                mark!(StringBad);
+        // W-201 leaves a line whose first quote stands inside its label.
+        if let Some((rest, zeros)) = string_directive(statement) {
+            let Some(inner) = string(rest.bytes) else {
+                mark!(LabelQuotedBad);
                 return Err(9);
             };
-            mark!(StringZero);
-            return self.store(&[inner, &[0]].concat());
-        }
-        if let Some(rest) = after(".ascii") {
-            let Some(inner) = string(rest) else {
-                mark!(AsciiBad);
-                return Err(9);
-            };
-            mark!(Ascii);
-            return self.store(inner);
+            mark!(LabelQuoted);
+            return self.store(&[inner, zeros].concat());
         }
         if let Some(rest) = after(".space").or_else(|| after(".zero")) {
             return self.zeros(size(rest)?);
         }
         mark!(DataUnknown);
         Err(10)
+    }
+
+    /// W-201's line of a string: its label, then the string, then its room.
+    fn string(&mut self, line: StringLine<'a>) -> Done {
+        match line.label {
+            Some(name) => {
+                mark!(StringLabelled);
+                self.label(name)?;
+            }
+            None => mark!(StringUnlabelled),
+        }
+        let Some(bytes) = display_string(line.operand.bytes) else {
+            match line.zeros {
+                [] => mark!(AsciiBad),
+                _ => mark!(StringBad),
+            }
+            return Err(9);
+        };
+        match line.zeros {
+            [] => mark!(Ascii),
+            _ => mark!(StringZero),
+        }
+        self.store(&[&bytes, line.zeros].concat())
     }
 
     /// One operand of `.word`, trimmed.
@@ -495,6 +518,43 @@ impl<'a> Reader<'a> {
         }
         self.lines.bss = end;
         Ok(())
+    }
+}
+
+/// W-201's line of a string.
+struct StringLine<'a> {
+    label: Option<Piece<'a>>,
+    /// What follows the directive's name, to the line's end.
+    operand: Piece<'a>,
+    zeros: &'static [u8],
+}
+
+/// "A line in the data section that begins, after an optional label whose colon
+/// precedes the first quote, with `.ascii`, `.asciz` or `.string`." Comment marks
+/// before the first quote still end the line: the quote is looked for in what
+/// document 01's cut leaves.
+fn string_line<'a>(line: Piece<'a>, raw: Piece<'a>) -> Option<StringLine<'a>> {
+    let (label, statement) = match line.cut(b'"').find(b':') {
+        Some(colon) => (
+            Some(line.before(colon).trim()),
+            line.after(colon + 1).trim(),
+        ),
+        None => (None, line),
+    };
+    let (rest, zeros) = string_directive(statement)?;
+    Some(StringLine {
+        label,
+        operand: raw.after(rest.at - raw.at),
+        zeros,
+    })
+}
+
+/// What follows a string directive, and the zeros that it adds.
+fn string_directive(statement: Piece<'_>) -> Option<(Piece<'_>, &'static [u8])> {
+    let zero = statement.strip(".asciz");
+    match zero.or_else(|| statement.strip(".string")) {
+        Some(rest) => Some((rest, &[0])),
+        None => Some((statement.strip(".ascii")?, &[])),
     }
 }
 

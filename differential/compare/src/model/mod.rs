@@ -1,4 +1,5 @@
-//! A second model of the whole call, written from document 01.
+//! A second model of the whole call, written from document 01, with document
+//! 02's change request W-201 (strings).
 //!
 //! It shares no line with the reference and none with the proved code. Where
 //! the paper leaves a point open, docs/DECISIONS.md says how it was decided.

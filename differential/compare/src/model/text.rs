@@ -1,4 +1,5 @@
-//! Document 01's "Text, numbers, registers".
+//! Document 01's "Text, numbers, registers", and the strings of change request
+//! W-201.
 
 use super::marks::mark;
 
@@ -242,12 +243,122 @@ pub fn register(bytes: &[u8]) -> Option<u32> {
     }
 }
 
-/// A string, trimmed, without its quotes.
+/// Document 01's string, trimmed, without its quotes.
 pub fn string(bytes: &[u8]) -> Option<&[u8]> {
     match trim(bytes) {
         [b'"', inner @ .., b'"'] => Some(inner),
         _ => None,
     }
+}
+
+/// W-201's string: what follows the directive's name, to the line's end. There
+/// is nothing beside it but blanks and a comment after it.
+pub fn display_string(operand: &[u8]) -> Option<Vec<u8>> {
+    let blanks = operand.iter().take_while(|b| is_white(**b)).count();
+    let [b'"', rest @ ..] = &operand[blanks..] else {
+        mark!(StringUnopened);
+        return None;
+    };
+    let (bytes, beside) = to_the_quote(rest)?;
+    match trim(beside).first() {
+        None => {}
+        Some(b';' | b'#') => mark!(StringCommented),
+        Some(_) => {
+            mark!(StringBeside);
+            return None;
+        }
+    }
+    Some(bytes)
+}
+
+/// The string's bytes to the next unescaped quote, and what follows it.
+fn to_the_quote(mut rest: &[u8]) -> Option<(Vec<u8>, &[u8])> {
+    let mut bytes = Vec::new();
+    loop {
+        let byte = match rest {
+            [] | [b'\\'] => {
+                mark!(StringUnclosed);
+                return None;
+            }
+            [b'"', beside @ ..] => return Some((bytes, beside)),
+            [b'\\', escaped @ ..] => {
+                let (byte, length) = escape(escaped)?;
+                rest = &escaped[length..];
+                byte
+            }
+            [byte, behind @ ..] => {
+                match byte {
+                    b':' => mark!(StringColon),
+                    b';' | b'#' => mark!(StringCommentMark),
+                    _ => {}
+                }
+                rest = behind;
+                *byte
+            }
+        };
+        bytes.push(byte);
+    }
+}
+
+/// The byte that an escape stands for, and its length behind the backslash.
+fn escape(escaped: &[u8]) -> Option<(u8, usize)> {
+    let byte = match escaped[0] {
+        b'b' => {
+            mark!(EscapeBackspace);
+            8
+        }
+        b'f' => {
+            mark!(EscapeFormFeed);
+            12
+        }
+        b'n' => {
+            mark!(EscapeLineFeed);
+            10
+        }
+        b'r' => {
+            mark!(EscapeReturn);
+            13
+        }
+        b't' => {
+            mark!(EscapeTab);
+            9
+        }
+        b'\\' => {
+            mark!(EscapeBackslash);
+            b'\\'
+        }
+        b'"' => {
+            mark!(EscapeQuote);
+            b'"'
+        }
+        b'0'..=b'9' => return octal(escaped),
+        _ => {
+            mark!(EscapeOther);
+            return None;
+        }
+    };
+    Some((byte, 1))
+}
+
+/// One to three octal digits up to 377. As in the GNU as manual, 8 and 9 are
+/// digits too.
+fn octal(escaped: &[u8]) -> Option<(u8, usize)> {
+    let digits = escaped.iter().take(3).take_while(|b| b.is_ascii_digit());
+    let digits: Vec<u32> = digits.map(|b| u32::from(b - b'0')).collect();
+    match digits.len() {
+        1 => mark!(OctalOne),
+        2 => mark!(OctalTwo),
+        _ => mark!(OctalThree),
+    }
+    if digits.iter().any(|digit| *digit > 7) {
+        mark!(OctalEightNine);
+    }
+    let value = digits.iter().fold(0, |value, digit| 8 * value + digit);
+    let Ok(byte) = u8::try_from(value) else {
+        mark!(OctalBeyond);
+        return None;
+    };
+    Some((byte, digits.len()))
 }
 
 /// An item's operands: parted at commas, trimmed, empty ones dropped.

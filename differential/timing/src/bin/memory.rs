@@ -13,7 +13,7 @@ use std::{env, io, thread};
 use timing::figures::{grouped, ratio};
 use timing::ours::Buffers;
 use timing::reference;
-use timing::sources::{sources, Source};
+use timing::sources::{sources, Goal, Source};
 
 /// The system's allocator, with how often it was asked, the bytes that are in
 /// use and the most that ever were.
@@ -81,13 +81,17 @@ fn tables(chosen: &[&str]) -> io::Result<()> {
         let (our_count, _) = heap(|| {
             black_box(buffers.assemble(black_box(text)));
         });
+        let our_count = grouped(our_count as u64);
+        if source.goal == Goal::Alone {
+            println!("| {} | {our_count} | - | - | - |", source.what);
+            continue;
+        }
         let (their_count, peak) = heap(|| {
             let _ = black_box(reference::assemble(black_box(text)));
         });
         println!(
-            "| {} | {} | {} | {} | {} |",
+            "| {} | {our_count} | {} | {} | {} |",
             source.what,
-            grouped(our_count as u64),
             grouped(their_count as u64),
             grouped(peak as u64),
             ratio(peak as f64, ours as f64)

@@ -4,11 +4,13 @@ use borrow.Author.Needs.{needs}
 use Rattle.layout.proofs.data.is_label_byte.Statement.{statement}
 use Rattle.layout.proofs.data.is_label_byte.Tie as tie
 
-is-label-start-requires : tie.Need-is-label-start-requires
-is-label-start-requires c κs = search needs
-
 returns : tie.Need-returns
-returns c = rw (c .is-label-start .ensures) refl
+returns c = rw (c .is-digit .ensures, c .before .is-label-start .ensures) refl
 
 pub is-label-byte-spec : {M : Type 1} → statement M
-is-label-byte-spec = tie.close (tie.spec is-label-start-requires returns)
+is-label-byte-spec =
+    tie.close
+    (tie.spec
+    (λ c κs. search needs)  -- is-label-start-requires
+    (λ c κs. search needs)  -- is-digit-requires
+    returns)

@@ -1,5 +1,5 @@
 -- `data::next_number`: a short number, or the operand at a place, by its own span in the text.
-use mathlib.Core.Path.{_≡_, sym, _∙_}
+use mathlib.Core.Path.{_≡_, sym, ap, _∙_}
 use mir.Syntax.{w64}
 use mir.Val.{SFits}
 use mir.Facts.{toZ-ofZ}
@@ -8,7 +8,10 @@ use Rattle.numbers.specs.declared.operands.Operand.the-variants.{At}
 use Rattle.numbers.specs.code.Spans.{spanned}
 use Rattle.numbers.specs.code.Cursors.{operandAt}
 use Rattle.numbers.proofs.Shorts.{short-means}
-use Rattle.layout.proofs.ReadingLaws.{operand-within, operand-first, operand-none, short-first}
+use Rattle.numbers.proofs.Parts.{operand-bounds}
+use Rattle.layout.specs.Directives.{operandWrite}
+use Rattle.layout.proofs.SpanLaws.{part-within, part-same}
+use Rattle.layout.proofs.ReadingLaws.{operand-first, operand-none, short-first}
 use borrow.Author.Needs.{needs}
 use Rattle.layout.proofs.data.next_number.Statement.{statement}
 use Rattle.layout.proofs.data.next_number.Tie as tie
@@ -44,25 +47,22 @@ returns-2 c =
     operand-none (at-span-bytes .before .before .args .width) _ _
     (rw (at-span-bytes .span-bytes .ensures) at (sym (c .before .before .operand-at .ensures) ∙ c .enum-told2 .given .1))
 
-add-t15 : tie.Need-add-t15
-add-t15 c =
-    let at-there = c .before .before in
-    let h = operand-within _ _ _ _ _ (found at-there) (at-there .before .before .before .before .before .before .before .before .before .pre) in
-    search needs
+part-in-requires : tie.Need-part-in-requires
+part-in-requires c κs = (c .before .before .before .before .before .before .before .before .before .pre, operand-bounds _ _ _ _ (found c) .0)
 
 operand-write-requires : tie.Need-operand-write-requires
-operand-write-requires c κs =
-    let at-there = c .before .before in
-    operand-within _ _ _ _ _ (found at-there) (at-there .before .before .before .before .before .before .before .before .before .pre)
+operand-write-requires c κs = part-within _ _ _ _ (operand-bounds _ _ _ _ (found (c .before)) .0) (c .part-in .ensures) (c .before .before .before .before .before .before .before .before .before .before .pre)
 
 returns-3 : tie.Need-returns-3
 returns-3 c =
     let at-operand-write = c .before in
-    let at-there = at-operand-write .before .before .before in
-    let start = at-there .before .before .before .before .before .before .before .before .before in
+    let at-part-in = at-operand-write .before in
+    let start = at-part-in .before .before .before .before .before .before .before .before .before .before in
+    let within = operand-bounds _ _ _ _ (found (at-part-in .before)) .0 in
     rw (c .next-of2 .ensures)
-    (operand-first _ _ _ _ _ (found at-there) (start .args .width) (at-operand-write .operand-write .result)
-    (at-operand-write .operand-write .ensures .0) (at-operand-write .operand-write .ensures .1))
+    (operand-first _ _ _ _ _ (found (at-part-in .before)) (start .args .width) (at-operand-write .operand-write .result)
+    (at-operand-write .operand-write .ensures .0 ∙ ap (operandWrite (start .args .width)) (part-same _ _ _ _ within (at-part-in .part-in .ensures)))
+    (at-operand-write .operand-write .ensures .1))
 
 pub next-number-spec : {M : Type 1} → statement M
 next-number-spec =
@@ -80,7 +80,7 @@ next-number-spec =
     (λ c. search needs)  -- enum-known-operand
     (λ c. search needs)  -- enum-told-2
     returns-2
-    add-t15
+    part-in-requires
     operand-write-requires
     (λ c κs. search needs)  -- next-of-requires-2
     returns-3)

@@ -2,14 +2,14 @@
 use mathlib.Core.Path.{ap}
 use denote.Ref.{now}
 use Rattle.layout.specs.code.Stands.{countOf, restOf}
-use Rattle.layout.proofs.CutLaws.{cut-order, cut-end, cut-marked, cut-says}
+use Rattle.layout.proofs.CutLaws.{cut-order, cut-end}
 use Rattle.layout.proofs.StageLaws.{words-within, place-fits, line-label-within, line-says-within, label-stopped, rest-stopped, line-goes}
 use borrow.Author.Needs.{needs}
 use Rattle.layout.proofs.stage.step_line.Statement.{statement}
 use Rattle.layout.proofs.stage.step_line.Tie as tie
 
 line-of-requires : tie.Need-line-of-requires
-line-of-requires c κs = let s = c .before .before .before .before .before .before .before .before .before .before in (s .pre .3, cut-marked _ _ (s .pre .2))
+line-of-requires c κs = let s = c .before .before .before .before .before .before .before .before .before .before in (s .pre .3, s .pre .2)
 
 place-requires : tie.Need-place-requires
 place-requires c κs = words-within (c .before .before .before .before .before .before .before .before .before .before .before .before .before .pre .0 .stands .rest .own)
@@ -22,7 +22,7 @@ label-step-requires c κs =
       rw (c .place .ensures) (place-fits (s .pre .0 .stands .rest .own)),
       s .pre .1,
       line-label-within (now (a .text)) (a .cut .at) (a .cut .end) (cut-order _ _ (s .pre .2)) (cut-end _ _ (s .pre .2)) (a .st .rest .own .section)
-          (c .before .before .before .line-of .result) (cut-says _ _ (s .pre .2) _ _ (c .before .before .before .line-of .ensures)),
+          (c .before .before .before .line-of .result) (c .before .before .before .line-of .ensures),
     )
 
 statement-step-requires : tie.Need-statement-step-requires
@@ -33,7 +33,7 @@ statement-step-requires c κs =
       record { it = s .pre .0 .it .rest; stands = s .pre .0 .stands .rest },
       s .pre .1,
       line-says-within (now (a .text)) (a .cut .at) (a .cut .end) (cut-order _ _ (s .pre .2)) (cut-end _ _ (s .pre .2)) (a .st .rest .own .section) (l .line-of .result)
-          (cut-says _ _ (s .pre .2) _ _ (l .line-of .ensures)),
+          (l .line-of .ensures),
       s .pre .4,
     )
 
@@ -42,7 +42,7 @@ returns c =
     let m = c .before .before .before .before .before .before .before .before .before .before .before .before .before in
     let b = m .before .before .before .before .before .before .before .before .before .before .before .before .before in
     let s = b .before .before .before .before .before .before .before .before .before .before .before .before .before .before .before in
-    line-goes _ _ _ _ _ _ _ _ (cut-order _ _ (s .pre .2)) (cut-end _ _ (s .pre .2)) _ (cut-says _ _ (s .pre .2) _ _ (b .before .before .before .before .line-of .ensures)) _ (b .before .place .ensures) _
+    line-goes _ _ _ _ _ _ _ _ (cut-order _ _ (s .pre .2)) (cut-end _ _ (s .pre .2)) _ (b .before .before .before .before .line-of .ensures) _ (b .before .place .ensures) _
     (b .label-step .ensures)
     _ (ap countOf (m .before .before .before .before .before .before .before .count .given .1)) _ (m .statement-step .ensures) _
     (ap restOf (c .before .rest2 .given .1))
@@ -52,7 +52,7 @@ returns-2 c =
     let m = c .before .before .before .before .before .before .before .before .before .before .before .before .before in
     let b = m .before .before .before .before .before .before .before .before .before .before .before .before .before in
     let s = b .before .before .before .before .before .before .before .before .before .before .before .before .before .before .before in
-    rest-stopped _ _ _ _ _ _ _ _ (cut-order _ _ (s .pre .2)) (cut-end _ _ (s .pre .2)) _ (cut-says _ _ (s .pre .2) _ _ (b .before .before .before .before .line-of .ensures)) _ (b .before .place .ensures) _
+    rest-stopped _ _ _ _ _ _ _ _ (cut-order _ _ (s .pre .2)) (cut-end _ _ (s .pre .2)) _ (b .before .before .before .before .line-of .ensures) _ (b .before .place .ensures) _
     (b .label-step .ensures)
     _ (ap countOf (m .before .before .before .before .before .before .before .count .given .1)) _ (m .statement-step .ensures) _
     (ap restOf (c .before .n .given .1))
@@ -61,7 +61,7 @@ returns-3 : tie.Need-returns-3
 returns-3 c =
     let b = c .before .before .before .before .before .before .before in
     let s = b .before .before .before .before .before .before .before .before .before .before .before .before .before .before .before in
-    label-stopped _ _ _ _ _ _ _ _ (cut-order _ _ (s .pre .2)) (cut-end _ _ (s .pre .2)) _ (cut-says _ _ (s .pre .2) _ _ (b .before .before .before .before .line-of .ensures)) _ (b .before .place .ensures) _
+    label-stopped _ _ _ _ _ _ _ _ (cut-order _ _ (s .pre .2)) (cut-end _ _ (s .pre .2)) _ (b .before .before .before .before .line-of .ensures) _ (b .before .place .ensures) _
     (b .label-step .ensures) _ (ap countOf (c .before .n2 .given .1))
 
 pub step-line-spec : {M : Type 1} → statement M

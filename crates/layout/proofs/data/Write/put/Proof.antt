@@ -5,28 +5,28 @@ use mir.Facts.{toZ-ofZ}
 use mir.Syntax.{w64}
 use mir.Val.{SFits}
 use Rattle.numbers.specs.Ints.{bits}
-use Rattle.layout.proofs.DataLaws.{source-room, zeros-left, zeros-room, text-put}
+use Rattle.layout.proofs.DataLaws.{source-fits, zeros-left, zeros-room, text-put}
 use borrow.Author.Needs.{needs}
 use Rattle.layout.proofs.data.Write.put.Statement.{statement}
 use Rattle.layout.proofs.data.Write.put.Tie as tie
 
-put-bytes-requires : tie.Need-put-bytes-requires
-put-bytes-requires c κs =
+put-string-requires : tie.Need-put-string-requires
+put-string-requires c κs =
     let start = c .before .before .before .before .before .before .before in
-    source-room (start .args .text .now) (start .args .dst .now) _ (start .args .n) _ _ _ (c .before .before .before .self2 .given .1)
+    source-fits (start .args .text .now) (start .args .dst .now) _ (start .args .n) _ _ _ (c .before .before .before .self2 .given .1)
     (c .span-bytes .ensures) (start .pre .0) (start .pre .1) (start .pre .2)
 
 sub-put-zeros : tie.Need-sub-put-zeros
 sub-put-zeros c =
     let at-self2 = c .before .before .before .before .before .before in
     let start = at-self2 .before .before .before .before in
-    omega (arith, zeros-left (start .args .text .now) _ _ _ _ _ _ (at-self2 .self2 .given .1) (c .before .before .before .span-bytes .ensures) (start .pre .0) (start .pre .1) (start .pre .2) _ (c .before .before .put-bytes .ensures))
+    omega (arith, zeros-left (start .args .text .now) _ _ _ _ _ _ (at-self2 .self2 .given .1) (c .before .before .before .span-bytes .ensures) (start .pre .0) (start .pre .1) (start .pre .2) _ (c .before .before .put-string .ensures))
 
 part-put-zeros-start : tie.Need-part-put-zeros-start
 part-put-zeros-start c =
     let at-self2 = c .before .before .before .before .before .before in
     let start = at-self2 .before .before .before .before in
-    omega (arith, zeros-left (start .args .text .now) _ _ _ _ _ _ (at-self2 .self2 .given .1) (c .before .before .before .span-bytes .ensures) (start .pre .0) (start .pre .1) (start .pre .2) _ (c .before .before .put-bytes .ensures))
+    omega (arith, zeros-left (start .args .text .now) _ _ _ _ _ _ (at-self2 .self2 .given .1) (c .before .before .before .span-bytes .ensures) (start .pre .0) (start .pre .1) (start .pre .2) _ (c .before .before .put-string .ensures))
 
 put-zeros-requires : tie.Need-put-zeros-requires
 put-zeros-requires c κs =
@@ -34,7 +34,7 @@ put-zeros-requires c κs =
     let at-self2 = at-span-bytes .before .before .before in
     let start = at-self2 .before .before .before .before in
     zeros-room (start .args .text .now) _ _ _ _ _ _ (at-self2 .self2 .given .1) (at-span-bytes .span-bytes .ensures) (start .pre .0)
-    (start .pre .1) (start .pre .2) _ (c .before .before .before .put-bytes .ensures)
+    (start .pre .1) (start .pre .2) _ (c .before .before .before .put-string .ensures)
 
 returns : tie.Need-returns
 returns c =
@@ -43,12 +43,12 @@ returns c =
 
 returns-2 : tie.Need-returns-2
 returns-2 c =
-    let at-put-bytes = c .before .before .before .before .before .before in
-    let at-span-bytes = at-put-bytes .before in
+    let at-put-string = c .before .before .before .before .before .before in
+    let at-span-bytes = at-put-string .before in
     let at-self2 = at-span-bytes .before .before .before in
     let start = at-self2 .before .before .before .before in
     text-put _ _ _ _ _ _ _ (at-self2 .self2 .given .1) (at-span-bytes .span-bytes .ensures) (start .pre .0) (start .pre .1) (start .pre .2)
-    _ (at-put-bytes .put-bytes .ensures) _ (c .before .before .put-zeros .ensures)
+    _ (at-put-string .put-string .ensures) _ (c .before .before .put-zeros .ensures)
 
 returns-3 : tie.Need-returns-3
 returns-3 c = rw (c .before .before .before .before .enum-told .given .1) (c .before .before .put-zeros2 .ensures)
@@ -65,7 +65,7 @@ put-spec =
     (λ c κs. search needs)  -- put-number-requires
     (λ c. search needs)  -- enum-known-self-2
     (λ c κs. search needs)  -- span-bytes-requires
-    put-bytes-requires
+    put-string-requires
     sub-put-zeros
     part-put-zeros-start
     (λ c. search needs)  -- part-put-zeros-end

@@ -1,14 +1,15 @@
 -- `Write::size`: as many bytes as the write has.
 use native.Mathlib.Omega.{arith}
-use Rattle.layout.proofs.DataLaws.{after-bounds, number-takes, text-takes, gap-takes}
+use Rattle.layout.proofs.DataLaws.{after-bounds, text-small, number-takes, text-takes, gap-takes}
 use borrow.Author.Needs.{needs}
 use Rattle.layout.proofs.data.Write.size.Statement.{statement}
 use Rattle.layout.proofs.data.Write.size.Tie as tie
 
 add-result : tie.Need-add-result
 add-result c =
-    let h = rw (c .before .before .self2 .given .1) at (c .before .before .before .before .before .pre .0) in
-    record { fits = omega (arith, h, c .before .before .before .before .before .pre) }
+    let start = c .before .before .before .before .before in
+    let h = rw (c .before .before .self2 .given .1) at (start .pre .0) in
+    record { fits = omega (arith, text-small _ _ (h .0), h .1, start .pre .1) }
 
 place-after-requires : tie.Need-place-after-requires
 place-after-requires c κs =
