@@ -9,11 +9,10 @@
 # A team that orders another size changes the numbers marked ORDER, and the
 # frame's .space at the end, which takes a plain number only.
 #
-# The li lines below name addresses. A small equate is never loaded by li: li
-# sets two words aside for any name and emits one if the value is small, which
-# would put every later label one word off. So a length is found as the distance
-# of two addresses. An equate above 2147483647 is refused by li: the routine
-# needs a base below that.
+# The li lines with a name load addresses. Such an li takes two words, whatever
+# the value is: so another size or another base changes words, and moves none.
+# An equate above 2147483647 is refused by li: the routine needs a base below
+# that.
 
 .globl draw_panel
 

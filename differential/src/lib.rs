@@ -5,6 +5,7 @@
 pub mod asking;
 pub mod falcon;
 pub mod gnu;
+pub mod items;
 pub mod random;
 pub mod refusals;
 pub mod sources;

@@ -624,10 +624,26 @@ fn add_assignments(sources: &mut Sources) {
         sources.add_lines(&["nop", line, "li a0, n"]);
     }
     for name in [
-        ".", "0x5", "-1", "n m", "5", "'a'", "li", "li a0, n", "print", "n+1", "(n)", "\"n\"",
-        "n,", "'",
+        ".",
+        "0x5",
+        "-1",
+        "n m",
+        "5",
+        "'a'",
+        "li",
+        "li a0, n",
+        "print",
+        "n+1",
+        "(n)",
+        "\"n\"",
+        "n,",
+        "'",
+        "4294967296",
+        "4294967295",
+        "-2147483649",
+        "2048",
     ] {
-        sources.add_lines(&[&format!("{name} = 77"), &format!("li a0, {name}")]);
+        sources.add_lines(&[&format!("{name} = 77"), &format!("li a0, {name}"), "x:"]);
         let equate = format!(".equ {name}, 4097");
         sources.add_lines(&[
             &equate,
@@ -676,7 +692,7 @@ fn add_dots(sources: &mut Sources) {
             }
         }
     }
-    // A small equate's li emits fewer words than it reserves.
+    // Of a small equate's li the Rust emits fewer words than it reserves.
     sources.add("n = 5\nli a0, n\nx: li a1, n\ny = .\nli a2, y\nla a3, x\n");
 }
 

@@ -45,8 +45,8 @@ fn is_section(name: &str) -> bool {
     }
 }
 
-/// The nine pseudos in every spelling, the words that each becomes (li: one
-/// or two, so 0 here), and whether the name may end its line.
+/// The nine pseudos in every spelling, the words that each becomes in the Rust
+/// (li: one or two, so 0 here), and whether the name may end its line.
 const PSEUDOS: [(&str, usize, bool); 12] = [
     ("li", 0, false),
     ("la", 2, false),

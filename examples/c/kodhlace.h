@@ -39,8 +39,8 @@ extern "C" {
 #define KODHLACE_EQUATE_VALUE 12u /* 8 bytes, signed, two's complement; every other field has 4, unsigned */
 #define KODHLACE_EQUATE_ROUND 20u
 
-#define KODHLACE_ITEM_SIZE 24u /* in text order */
-#define KODHLACE_ITEM_ADDRESS 0u
+#define KODHLACE_ITEM_SIZE 24u   /* in text order */
+#define KODHLACE_ITEM_ADDRESS 0u /* base + 4 * first word */
 #define KODHLACE_ITEM_LINE 4u
 #define KODHLACE_ITEM_KIND 8u
 #define KODHLACE_ITEM_FIRST_WORD 12u   /* an index into words; its words end where the next item's begin, the last one's at KODHLACE_WORDS */

@@ -186,6 +186,7 @@ pub const ORDINARY: u32 = 0;
 
 #[derive(Clone, Copy, Debug, PartialEq, Eq)]
 pub struct Item {
+    /// base + 4 * first_word
     pub address: u32,
     pub line: usize,
     /// `ORDINARY`, or 1 to 9: li, la, push, pop, print, print_str, read,
@@ -193,13 +194,6 @@ pub struct Item {
     pub kind: u32,
     pub first_word: usize,
     pub source: Span,
-}
-
-impl Item {
-    /// Does its address run ahead of where its words stand?
-    pub fn is_ahead(&self, base: u32) -> bool {
-        self.address as usize != base as usize + 4 * self.first_word
-    }
 }
 
 fn u32_at(record: &[u8], at: usize) -> u32 {

@@ -108,10 +108,6 @@ fn items(text: &[u8], base: u32, buffers: &Buffers, counts: &Counts) -> String {
     if items.iter().any(|i| i.kind == ORDINARY) {
         out += "An ordinary instruction's word is 0: only pseudo-instructions are encoded.\n";
     }
-    if items.iter().any(|i| i.is_ahead(base)) {
-        out += "Some items' addresses run ahead of their words: an li of an equate reserves\n\
-                two words, and emits one if the value is small.\n";
-    }
     out
 }
 

@@ -34,7 +34,7 @@ numbersLent n xs = padded n (take n xs)
 
 -- A text at a base, with so much lent, and n numbers lent for the counts: r is returned, cs and b are left in what was lent.
 pub record Called (t : List ℕ) (base : ℕ) (k : Lent) (n r : ℕ) (cs : List ℕ) (b : Buffers) : Type 0 where
-  -- the answer that is handed over meets the call's contract: the order's three demands
+  -- the answer that is handed over meets the call's contract: the order's three demands, and W-202 of accepted layouts
   pub answer : Answer
   pub assembled : Assembled t base k answer
   -- its number is returned, 0 where it is accepted; its line and counts, and its outputs, are left

@@ -124,9 +124,9 @@ unfolding emit
 emit-says base const label m [] ws is h = tt
 emit-says base const label m (x ∷ xs) ws is h =
     let s = x .source .bytes in
-    and-then-comes (WordsFit const (x .item) s) (λ _. Unit) (Said pseudoNumbers m) (atLine (x .line) (emission const label (x .item) s))
+    and-then-comes (WordsFit (x .item) s) (λ _. Unit) (Said pseudoNumbers m) (atLine (x .line) (emission const label (x .item) s))
     (λ vs. emit base const label xs (ws ++ vs) (is ++ itemAt base x (length ws) ∷ []))
-    (at-line-said (WordsFit const (x .item) s) pseudoNumbers (x .line) m (emission const label (x .item) s) (h .0)
+    (at-line-said (WordsFit (x .item) s) pseudoNumbers (x .line) m (emission const label (x .item) s) (h .0)
     (emission-fits const label (x .item) s))
     (λ vs u. emit-says base const label m xs (ws ++ vs) _ (h .1))
 

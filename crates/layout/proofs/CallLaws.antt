@@ -232,9 +232,9 @@ module _ {t : List ℕ} {base : ℕ} {st : Counters} {l n e x i d lw w : List �
       emit-go a =
           rw after-is
           (by (emittedIn scope)
-          (emit-fits t base (s .base-limit) (constant (y .it .turns .known)) (labelAddress base σ) (σ .rest .own .items .list) [] [] (s .stands .rest .own .items .fits .each) tt tt) a)
+          (emit-fits t base (s .base-limit) (constant (y .it .turns .known)) (labelAddress base σ) (σ .rest .own .items .words) (σ .rest .own .items .list) [] [] (s .stands .rest .own .items .fits .consecutive) (s .stands .rest .own .items .fits .each) tt tt) a)
         where
-          by : (o : Result Refusal Emitted) → Comes (EmitsFit t (σ .rest .own .items .list) [] []) (InText t) o → Agrees (EmitLeft i′ w′) (value count) o
+          by : (o : Result Refusal Emitted) → Comes (EmitsFit t (σ .rest .own .items .words) (σ .rest .own .items .list) []) (InText t) o → Agrees (EmitLeft i′ w′) (value count) o
               → Agrees (LaidLeft (buffers w′ d′ l″ e′ i′)) (value counts) (andThen o (λ z. value (layout base σ (y .it .bytes) (y .it .turns) z)))
           by (value z) f q = laid-left z q (omega (arith, f .count))
           by (refused z) f q = absurd q

@@ -1,5 +1,5 @@
 -- Whatever answers as the programs would that document 01 excludes by demand 2, "How much the layout promises", 3, does not meet the call's
--- contract; nor does one that reads strings otherwise than document 02; nor does an answer against demand 1: outputs or counts left after a
+-- contract; nor does one that reads strings or an li by name otherwise than document 02; nor does an answer against demand 1: outputs or counts left after a
 -- refusal, a number that document 01 does not have or that is the encoder's alone, 40 or 41 at another line than 0, a line that the text does
 -- not have.
 use Prim.Native.Nat.{ℕ, _≤_, _<_}
@@ -48,6 +48,18 @@ untouched k x a e = e (simp sub-zero at (ap (λ (y : Answer). y .buffers) (a .gi
 pub all-refused : (x : Answer) → Assembled [] 0 full x → (x .number ≡ 0 → ⊥) → ⊥
 unfolding computing
 all-refused x a n = n (ap (λ (y : Answer). y .number) (a .given))
+
+-- ---- an li by name: document 02, W-202
+
+-- an upper part of 0 left out: an addi from x0, whatever follows it
+pub upper-left-out : (x : Answer) → Assembled (text "n = 5\nli a0, n") 0 full x → (firstWord x ≡ 0x00000537 → ⊥) → ⊥
+unfolding computing
+upper-left-out x a n = n (ap firstWord (a .given))
+
+-- an equate of 2^31 taken as negative, as a written number is
+pub beyond-taken : (x : Answer) → Assembled (text "n = 2147483648\nli a0, n") 0 full x → (x .number ≡ 19 → ⊥) → ⊥
+unfolding computing
+beyond-taken x a n = n (ap (λ (y : Answer). y .number) (a .given))
 
 -- ---- strings: document 02, W-201
 

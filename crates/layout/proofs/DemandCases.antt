@@ -16,7 +16,7 @@ use Rattle.layout.specs.Stage.{lineStage}
 use Rattle.layout.specs.Addresses.{addressAt}
 use Rattle.layout.specs.Layouts.{EquateAt, ItemAt, Layout}
 use Rattle.layout.specs.Terms.{literal, named, Term, termsFrom, termsOf, signedSum, namesIn, isUsed}
-use Rattle.layout.specs.Demands.{recordedValue, recordedAddress, finalValue, largest, lawfulRound, sumOfRounds, itemWords}
+use Rattle.layout.specs.Demands.{recordedValue, recordedAddress, finalValue, largest, lawfulRound, sumOfRounds, itemWords, wordFrom}
 use Rattle.layout.proofs.Computing.{computing}
 use Rattle.layout.proofs.TwelveCases.{laid, wordsOf, laidData, no}
 
@@ -88,16 +88,21 @@ itemsFrom l (i ∷ below) = itemWords l i below ∷ itemsFrom l below
 abbrev pub laidItems : List ℕ → Result Refusal (List (List ℕ))
 laidItems t = mapped (λ l. itemsFrom l (l .items)) (laid t)
 
+abbrev pub firstWordsAt : List ℕ → List ℕ → Result Refusal (List ℕ)
+firstWordsAt t ns = mapped (λ l. map (λ n. wordFrom n l (l .items)) ns) (laid t)
+
 pub item-cases :
-    -- an li by a small equate, which reserves two words and emits one; an li by its number; an la
+    -- an li by name, whose upper part is 0; an li by its number; an la
     (laidItems (text "n = 5\nli a0, n\nli a1, 2048\nla a2, t\nt: nop")
-    ≡ value ((0x00500513 ∷ []) ∷ (0x000015B7 ∷ 0x80058593 ∷ []) ∷ (0x00000637 ∷ 0x01860613 ∷ []) ∷ (0 ∷ []) ∷ []))
+    ≡ value ((0x00000537 ∷ 0x00550513 ∷ []) ∷ (0x000015B7 ∷ 0x80058593 ∷ []) ∷ (0x00000637 ∷ 0x01860613 ∷ []) ∷ (0 ∷ []) ∷ []))
     -- an equate may be named as a number that `parse_imm` does not take: li then loads its value
-    × (wordsOf (text ".equ 99999999999, 5\nli a0, 99999999999") ≡ value (0x00500513 ∷ []))
+    × (wordsOf (text ".equ 99999999999, 5\nli a0, 99999999999") ≡ value (0x00000537 ∷ 0x00550513 ∷ []))
+    -- the first word at a line or below it: of an item at the line, of one below it, and behind all of them
+    × (firstWordsAt (text "x: nop\nn = 5\nli a0, n\ny: nop\nz:") (0 ∷ 1 ∷ 3 ∷ 4 ∷ []) ≡ value (0 ∷ 1 ∷ 3 ∷ 4 ∷ []))
     -- label words side by side
     × (laidData (text ".data\nt: .word u, t\nu: .byte 7") ≡ value (0x08 ∷ 0x10 ∷ 0 ∷ 0 ∷ 0x00 ∷ 0x10 ∷ 0 ∷ 0 ∷ 7 ∷ []))
-unfolding computing
-item-cases = (refl, refl, refl)
+unfolding computing wordFrom
+item-cases = (refl, refl, refl, refl)
 
 -- ---- 17
 

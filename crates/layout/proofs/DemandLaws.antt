@@ -1,9 +1,10 @@
 -- Demand 3 of the definitions' layouts: what holds of every accepted one, where 17 stands, and when it comes.
-use Prim.Native.Nat.{ℕ, zero, suc, _*_, _≤_}
+use Prim.Native.Nat.{ℕ, zero, suc, _+_, _*_, _≤_}
 use mathlib.Core.Path.{_≡_, refl, sym, _∙_, ap, subst}
 use mathlib.Core.Logic.{_↔_, _⊎_, inl, inr}
 use mathlib.Core.List.{List, [], map}
 use mathlib.Core.Bool.{Bool, true, false, not}
+use mathlib.Core.Option.{some}
 use native.Mathlib.Nat.{suc-mul, mul-suc}
 use native.Mathlib.Omega.{arith}
 use lib.Dec.{ltb, eqb}
@@ -11,21 +12,23 @@ use lib.ListN.{length, take, drop}
 use borrow.Author.Tests.{ltb-false, le-ltb}
 use Rattle.numbers.specs.Results.{Result, value, refused, andThen}
 use Rattle.layout.specs.Pieces.{lines, linePieces}
+use Rattle.layout.specs.declared.state.Section.the-variants as section
+use Rattle.layout.specs.declared.state.Place.{Place}
 use Rattle.layout.specs.Refusals.{Refusal, byteNumbers, lineNumbers, labelWordNumbers, turnNumbers, pseudoNumbers}
 use Rattle.layout.specs.Limits.{baseLimit, textLimit, Lent, roomOf}
 use Rattle.layout.specs.State.{Equate, LabelWord, State, start}
 use Rattle.layout.specs.Stage.{lineStage}
-use Rattle.layout.specs.Addresses.{placed, ordered, labelAddress, fill}
+use Rattle.layout.specs.Addresses.{addressAt, placed, ordered, labelAddress, fill}
 use Rattle.layout.specs.Rounds.{constant, turn, Turns}
 use Rattle.layout.specs.Layouts.{Layout, Emitted, emit, foundEquates, refuseIf, checkBytes}
 use Rattle.layout.specs.Layouts.{resolve, layout, afterLines, layoutOf}
 use Rattle.layout.specs.Chains.{Among, NamesFirst, Conditions, Chained}
-use Rattle.layout.specs.Demands.{recordedAddress, EquateHolds, OneByOne, LabelWordHolds, BeforeRounds, Holds}
-use Rattle.layout.specs.code.Fits.{Fits}
+use Rattle.layout.specs.Demands.{recordedAddress, wordFrom, EquateHolds, OneByOne, LabelWordHolds, BeforeRounds, Holds}
+use Rattle.layout.specs.code.Fits.{Consecutive, Fits}
 use Rattle.layout.proofs.ResultLaws.{refused-value, value-same, refused-same}
 use Rattle.layout.proofs.Gives.{Comes}
 use Rattle.layout.proofs.Kept.{stage-fits}
-use Rattle.layout.proofs.Fields.{LayoutFits, layout-fits}
+use Rattle.layout.proofs.Fields.{InText, EmitsFit, emit-fits, LayoutFits, layout-fits}
 use Rattle.layout.proofs.RefusalLaws.{in-all, allOf, Said}
 use Rattle.layout.proofs.StageOrder.{Laid, StageLaid, stage-laid}
 use Rattle.layout.proofs.AnswerLaws.{Says, check-says, fill-says, emit-says}
@@ -34,9 +37,10 @@ use Rattle.layout.proofs.RoundLaws.{spent-sum}
 use Rattle.layout.proofs.ChainLaws.{among-each, stuck-names}
 use Rattle.layout.proofs.ResolveLaws.{turn-numbered, own-evaluator, RoundsRefused, by-turn, by-end, RoundsCome, all-end}
 use Rattle.layout.proofs.ConditionLaws.{chained-unresolved}
-use Rattle.layout.proofs.EquatesHold.{value-recorded, address-recorded, equates-hold}
+use Rattle.layout.proofs.EquatesHold.{value-recorded, address-recorded, address-among, equates-hold}
 use Rattle.layout.proofs.FillLaws.{WordHolds, fill-holds, address-below}
 use Rattle.layout.proofs.ItemsHold.{EmittedAs, emitted-as, items-hold}
+use Rattle.layout.proofs.TextPlaces.{Reached, PlacesReached, stage-reached, words-above, text-address}
 
 -- ---- numbers
 
@@ -150,6 +154,9 @@ after-refused base σ bytes m laid (value x) g r e =
 read-laid : (t : List ℕ) (base : ℕ) (k : Lent) (σ : State) (bytes : List ℕ) → BeforeRounds t base k σ bytes → Laid (length (lines t)) σ
 read-laid t base k σ bytes b = rw (b .read) at (stage-laid t (roomOf k))
 
+read-fits : (t : List ℕ) (base : ℕ) (k : Lent) (σ : State) (bytes : List ℕ) → BeforeRounds t base k σ bytes → Fits t (roomOf k) σ
+read-fits t base k σ bytes b = rw (b .read) at (stage-fits t k)
+
 -- for every text: where the answer is 17, its line is the first whose equate starts a chain of uses that comes back to a name in it or reaches
 -- an undefined one
 pub unresolved-line : (t : List ℕ) (base : ℕ) (k : Lent) (r : Refusal) → layoutOf t base k ≡ refused r → r .number ≡ 17
@@ -201,8 +208,11 @@ module _ (t : List ℕ) (base : ℕ) (k : Lent) (σ : State) (bytes : List ℕ) 
   laid : Laid (length (lines t)) σ
   laid = read-laid t base k σ bytes b
 
+  reached : PlacesReached (length (lines t)) σ
+  reached = rw (b .read) at (stage-reached t k)
+
   fits : Fits t (roomOf k) σ
-  fits = rw (b .read) at (stage-fits t k)
+  fits = read-fits t base k σ bytes b
 
   labels-hold : (n : List ℕ) → recordedAddress (ordered (map (placed base σ) (σ .labels))) n ≡ labelAddress base σ n
   labels-hold n = address-recorded base σ n (σ .labels) (laid .labels)
@@ -221,11 +231,24 @@ module _ (t : List ℕ) (base : ℕ) (k : Lent) (σ : State) (bytes : List ℕ) 
         stands = ap (λ (xs : List ℕ). take 4 (drop (w .at) xs)) d ∙ h .2;
       }
 
+  consecutive : Consecutive 0 (σ .rest .own .items .list) (σ .rest .own .items .words)
+  consecutive = fits .rest .own .items .consecutive
+
+  -- a place that the lines reached in the text section has the address of the first word at its line or below it
+  word-holds : (x : Turns) (e : Emitted) → EmittedAs (constant (x .known)) (labelAddress base σ) base (σ .rest .own .items .list) [] [] e
+      → length (e .words) ≡ σ .rest .own .items .words → (line : ℕ) (p : Place) → Reached (length (lines t)) (σ .rest .own .items .list) line p → p .section ≡ section.Text
+      → addressAt base σ p ≡ base + 4 * wordFrom line (layout base σ bytes x e) (e .items)
+  word-holds x e m w line p r =
+      let l = layout base σ bytes x e in
+      text-address base σ (length (lines t)) line p (wordFrom line l (e .items)) r
+      (words-above (constant (x .known)) (labelAddress base σ) base l line (σ .rest .own .items) e w m consecutive)
+
   -- what the rounds and the items leave holds
   layout-holds : (x : Turns) → AllFound (turn base σ) (σ .rest .equates) (x .known) (x .evaluations) → (e : Emitted)
       → EmittedAs (constant (x .known)) (labelAddress base σ) base (σ .rest .own .items .list) [] [] e
+      → length (e .words) ≡ σ .rest .own .items .words
       → 2 * x .evaluations ≤ length (foundEquates (x .known)) * suc (length (foundEquates (x .known))) → Holds base σ (layout base σ bytes x e)
-  layout-holds x a e m few =
+  layout-holds x a e m w few =
       let l = layout base σ bytes x e in
       let found = none-pending (x .known) (a .found) in
       record {
@@ -234,7 +257,11 @@ module _ (t : List ℕ) (base : ℕ) (k : Lent) (σ : State) (bytes : List ℕ) 
             (equates-hold base σ (a .last) (x .known) (a .history) found l refl labels-hold);
         labelWords = words-hold l labels-hold refl;
         items = items-hold (constant (x .known)) (labelAddress base σ) base l (value-recorded (x .known)) labels-hold
-            (σ .rest .own .items .list) e refl refl m;
+            (σ .rest .own .items .list) (σ .rest .own .items .words) e refl refl m consecutive;
+        words = w;
+        textLabels = λ y i q. labels-hold (y .name .bytes) ∙ address-among base σ (laid .labels) i
+            ∙ ap some (word-holds x e m w (y .line) (y .place) (among-each _ (reached .labels) i) q);
+        textDots = λ d i. word-holds x e m w (d .line) (d .place) (among-each _ (reached .equates) i);
         evaluations = a .evaluated ∙ spent-sum (a .last) (x .known) found;
         few = few;
       }
@@ -253,19 +280,23 @@ accepted-holds t base k l e = by (way t base k)
     emits : (σ : State) (bytes : List ℕ) → BeforeRounds t base k σ bytes → (x : Turns)
         → AllFound (turn base σ) (σ .rest .equates) (x .known) (x .evaluations) → (y : Result Refusal Emitted)
         → Comes (EmittedAs (constant (x .known)) (labelAddress base σ) base (σ .rest .own .items .list) [] []) (λ _. Unit) y
+        → Comes (EmitsFit t (σ .rest .own .items .words) (σ .rest .own .items .list) []) (InText t) y
         → andThen y (λ e. value (layout base σ bytes x e)) ≡ value l → Holds base σ l
-    emits σ bytes b x a (refused r) m p = absurd (refused-value p)
-    emits σ bytes b x a (value y) m p =
+    emits σ bytes b x a (refused r) m f p = absurd (refused-value p)
+    emits σ bytes b x a (value y) m f p =
         let q = value-same p in
         let n : 2 * x .evaluations ≤ length (foundEquates (x .known)) * suc (length (foundEquates (x .known))) = rw (← q) at bound in
-        subst (Holds base σ) q (layout-holds t base k σ bytes b x a y m n)
+        subst (Holds base σ) q (layout-holds t base k σ bytes b x a y m (f .sized) n)
 
     resolves : (σ : State) (bytes : List ℕ) → BeforeRounds t base k σ bytes → (x : Result Refusal Turns) → RoundsCome base σ (σ .rest .equates) x
         → afterRounds base σ bytes x ≡ value l → Holds base σ l
     resolves σ bytes b (refused r) a p = absurd (refused-value p)
     resolves σ bytes b (value x) a p =
+        let items = σ .rest .own .items in
+        let fit = read-fits t base k σ bytes b .rest .own .items in
         emits σ bytes b x a (emit base (constant (x .known)) (labelAddress base σ) (σ .rest .own .items .list) [] [])
-        (emitted-as (constant (x .known)) (labelAddress base σ) base (σ .rest .own .items .list) [] []) p
+        (emitted-as (constant (x .known)) (labelAddress base σ) base (σ .rest .own .items .list) [] [])
+        (emit-fits t base (b .low) (constant (x .known)) (labelAddress base σ) (items .words) (items .list) [] [] (fit .consecutive) (fit .each) tt tt) p
 
     by : Way t base k (layoutOf t base k) → (σ : State) × (bytes : List ℕ) × BeforeRounds t base k σ bytes × Holds base σ l
     by (before r h q) = absurd (refused-value (sym q ∙ e))

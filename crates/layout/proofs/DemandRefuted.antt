@@ -1,14 +1,14 @@
 -- Whatever answers as the programs would that document 01 excludes by demand 3, "How much the layout promises", 3, does not meet it; nor does
--- a label or a label word one word off, an li whose word is blank or another than lui and addi, of x0 too, or an equate whose name another equate
--- or a label has.
-use Prim.Native.Nat.{ℕ, zero, suc, _^_, _<_}
+-- a label or a label word one word off, an li whose word is blank or another than lui and addi, of x0 too, an li by name that is counted as one word, or
+-- an equate whose name another equate or a label has.
+use Prim.Native.Nat.{ℕ, zero, suc, _+_, _*_, _^_, _<_}
 use mathlib.Core.Path.{_≡_, refl, sym, _∙_, ap, subst}
 use mathlib.Core.List.{List, [], _∷_, _++_}
 use mathlib.Core.Bool.{true, false, false≢true}
-use mathlib.Core.Option.{Option, some}
+use mathlib.Core.Option.{Option, none, some}
 use native.Mathlib.Omega.{arith}
 use lib.IntN.{ℤ, pos}
-use lib.ListN.{getD, replicate}
+use lib.ListN.{length, getD, replicate}
 use Rattle.numbers.specs.Results.{value}
 use Rattle.numbers.specs.Text.{text}
 use Rattle.numbers.specs.Registers.{registerOf}
@@ -23,14 +23,15 @@ use Rattle.layout.specs.Pseudos.{pseudoOperands}
 use Rattle.layout.specs.State.{Label, Equate, ItemLine, LabelWord, Own, State, start}
 use Rattle.layout.specs.Stage.{lineStage}
 use Rattle.layout.specs.Addresses.{LabelAt}
-use Rattle.layout.specs.Layouts.{EquateAt, ItemAt, Layout, Answer}
+use Rattle.layout.specs.Layouts.{EquateAt, ItemAt, Layout, layoutOf, Answer}
 use Rattle.layout.specs.Terms.{Term, termsFrom, termsOf, signedSum, namesIn, isUsed}
 use Rattle.layout.specs.Chains.{Among, first, nameOf, Reaches, uses, onto, Unresolved, undefined, circular, NamesFirst}
 use Rattle.layout.specs.Held.{heldLayout}
-use Rattle.layout.specs.Demands.{recordedValue, recordedAddress, finalValue, largest, sumOfRounds, LabelWordHolds, liValue, Loads, Holds, Demanded}
+use Rattle.layout.specs.Demands.{recordedValue, recordedAddress, finalValue, largest, sumOfRounds, wordFrom, LabelWordHolds, liValue, Loads, Holds, Demanded}
 use Rattle.numbers.proofs.Bools.{none-some}
 use Rattle.layout.proofs.ResultLaws.{value-same, some-same}
 use Rattle.layout.proofs.Computing.{computing}
+use Rattle.layout.proofs.RecordCases.{shrunk}
 
 -- ---- answers
 
@@ -259,6 +260,59 @@ words-other-x0 w p q x c d = by (claim-holds (loading x0) (loadingState x0) (loa
 -- a blank word, for one
 pub words-blank : (x : Answer) → Claims (loading (text "x0")) (loadingLayout (text "x0") 0) x → Demanded (loading (text "x0")) 0 full x → ⊥
 words-blank = words-other-x0 0 refl refl
+
+-- ---- `n = 5`, `li a0, n`, `x: ecall`: a small equate's li counted as one word
+
+abbrev shrunkLabel : Label
+shrunkLabel = record { name = piece 15 (text "x"); place = record { section = section.Text; offset = 8 }; line = 2 }
+
+abbrev shrunkState : State
+shrunkState =
+    stateWith (shrunkLabel ∷ [])
+    (equate 0 (text "n") 4 (text "5") 0 ∷ [])
+    (ownWith section.Text (
+    record { offset = 0; line = 1; item = some Li; source = piece 6 (text "li a0, n") } ∷
+    record { offset = 8; line = 2; item = none; source = piece 18 (text "ecall") } ∷ []
+    ) 3 [] [])
+
+shrunk-says : LinesSay shrunk shrunkState
+unfolding computing
+shrunk-says = refl
+
+-- with these words, this address of x, and this address and index of the ecall's word
+abbrev shrunkLayout : List ℕ → ℕ → ℕ → ℕ → Layout
+shrunkLayout ws x address n =
+    layoutWith ws [] (record { name = piece 15 (text "x"); address = x; line = 2 } ∷ [])
+    (record { name = piece 0 (text "n"); line = 0; value = pos 5; round = 1 } ∷ []) (
+    record { address = 0; line = 1; kind = 1; first = 0; source = piece 6 (text "li a0, n") } ∷
+    record { address = address; line = 2; kind = 0; first = n; source = piece 18 (text "ecall") } ∷ []
+    ) 1
+
+-- what the call gives
+shrunk-laid : layoutOf shrunk 0 full ≡ value (shrunkLayout (0x00000537 ∷ 0x00550513 ∷ 0 ∷ []) 8 8 2)
+unfolding computing
+shrunk-laid = refl
+
+module _ (ws : List ℕ) (x address n : ℕ) (a : Answer) (c : Claims shrunk (shrunkLayout ws x address n) a) (d : Demanded shrunk 0 full a) where
+  shrunk-holds : Holds 0 shrunkState (shrunkLayout ws x address n)
+  shrunk-holds = claim-holds shrunk shrunkState (shrunkLayout ws x address n) a shrunk-says c d
+
+  -- an index other than 2: 1 where the li is counted as one word
+  pub first-off : (n ≡ 2 → ⊥) → ⊥
+  first-off other = let h = shrunk-holds .items .1 .0 in other (omega (arith, h .address, h .atWord))
+
+  -- another address than 8, of the item
+  pub address-off : (address ≡ 8 → ⊥) → ⊥
+  address-off other = other (shrunk-holds .items .1 .0 .address)
+
+  -- or of its label: the address of another word than the item's
+  pub text-label-off : (x ≡ 4 * n → ⊥) → ⊥
+  unfolding computing recordedAddress wordFrom
+  text-label-off other = let e : x ≡ 0 + 4 * n = some-same (shrunk-holds .textLabels shrunkLabel first refl) in other (omega (arith, e))
+
+  -- other words than three: two where the li emits one
+  pub words-lost : (length ws ≡ 3 → ⊥) → ⊥
+  words-lost other = other (shrunk-holds .words)
 
 -- ---- `a = 5`: a name that another equate, or a label, has too
 

@@ -27,6 +27,10 @@ module _ {A : Type 0} where
   cond-has P true x y g h = g
   cond-has P false x y g h = h
 
+  pub test-has : (P : A → Type 0) (c : Bool) (x y : A) → P x → P y → P (elim c [ true ↦ x | false ↦ y ])
+  test-has P true x y g h = g
+  test-has P false x y g h = h
+
 pub each-map : {A B : Type 0} (P : A → Type 0) (Q : B → Type 0) (f : A → B) → ((x : A) → P x → Q (f x)) → (xs : List A) → Each P xs
     → Each Q (map f xs)
 each-map P Q f h [] g = tt

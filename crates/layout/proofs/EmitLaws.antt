@@ -10,7 +10,6 @@ use lib.IntN.{ℤ}
 use lib.ListN.{length, drop, getD, set, length-append}
 use lib.Seq.{drop-cons, set-at, set-split, append-snoc}
 use Rattle.numbers.specs.Results.{Result, value, refused, andThen, mapped}
-use Rattle.encoder.specs.declared.instruction.Instruction.{Instruction}
 use Rattle.encoder.specs.Encoding.{encoding}
 use Rattle.layout.specs.declared.state.Count.{Count}
 use Rattle.layout.specs.declared.state.Count.the-variants as count
@@ -22,8 +21,8 @@ use Rattle.layout.specs.Layouts.{encoded}
 use Rattle.layout.specs.code.Steps.{Agrees}
 use Rattle.layout.specs.code.Stands.{countOf}
 use Rattle.layout.specs.code.Expands.{longest, slotAt, slotsFrom, CountFits, WordsPut}
-use Rattle.layout.proofs.ItemLaws.{words-few}
-use Rattle.layout.proofs.Emissions.{WordsFit, expansion-encodes, emission-fits}
+use Rattle.layout.proofs.PseudoLaws.{words-few}
+use Rattle.layout.proofs.Emissions.{expansion-fits}
 
 -- ---- words in order
 
@@ -105,17 +104,10 @@ slots-size : (xs : List Slot) (k n : ℕ) → length (slotsFrom xs k n) ≡ n
 slots-size xs k zero = refl
 slots-size xs k (suc n) = ap suc (slots-size xs (suc k) n)
 
--- a pseudo has no more instructions than it reserves words
-module _ (const : List ℕ → Option ℤ) (label : List ℕ → Option ℕ) (p : Pseudo) (s : List ℕ) where
-  few : (is : List Instruction) → expansion const label p (pseudoOperands s) ≡ value is → length is ≤ pseudoWords p s
-  few is e =
-      let taken = expansion-encodes const label p (pseudoOperands s) is e in
-      let fit : WordsFit const (some p) s (taken .0) = rw (e, taken .1) at (emission-fits const label (some p) s) in
-      omega (arith, fit .1, taken .2)
-
-  pub expansion-room : (xs : List Slot) (c : Count) (room : ℕ) → mapped (slotsFrom xs 0) (countOf c) ≡ expansion const label p (pseudoOperands s)
-      → pseudoWords p s ≤ room → CountFits room c
-  expansion-room xs (count.Now n) room e h =
-      let fit = few (slotsFrom xs 0 n) (sym e) in
-      (omega (arith, fit, slots-size xs 0 n, words-few (some p) s), omega (arith, fit, slots-size xs 0 n))
-  expansion-room xs (count.Stop m) room e h = tt
+-- a pseudo has as many instructions as it reserves words
+pub expansion-room : (const : List ℕ → Option ℤ) (label : List ℕ → Option ℕ) (p : Pseudo) (s : List ℕ) (xs : List Slot) (c : Count) (room : ℕ)
+    → mapped (slotsFrom xs 0) (countOf c) ≡ expansion const label p (pseudoOperands s) → pseudoWords p s ≤ room → CountFits room c
+expansion-room const label p s xs (count.Now n) room e h =
+    let sized : n ≡ pseudoWords p s = sym (slots-size xs 0 n) ∙ (rw (sym e) at (expansion-fits const label p s)) .0 in
+    (omega (arith, sized, words-few (some p) s .1), omega (arith, sized))
+expansion-room const label p s xs (count.Stop m) room e h = tt

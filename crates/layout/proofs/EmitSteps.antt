@@ -2,7 +2,7 @@
 use Prim.Native.Nat.{ℕ, _+_, _-_, _*_, _≤_, _<_}
 use native.Mathlib.Nat.{sub-zero}
 use native.Mathlib.Omega.{arith}
-use mathlib.Core.Path.{_≡_, refl, sym, ap, ap₂, subst, _∙_}
+use mathlib.Core.Path.{_≡_, refl, sym, ap, ap₂, _∙_}
 use mathlib.Core.List.{List, [], _∷_, _++_, map, append-assoc, append-nil}
 use mathlib.Core.Option.{Option}
 use lib.ListN.{length, take, drop, getD, length-append}
@@ -16,13 +16,13 @@ use Rattle.layout.specs.Bytes.{littleEndian, put, padded, together}
 use Rattle.layout.specs.Limits.{textLimit, wordLimit, itemLimit, itemSize}
 use Rattle.layout.specs.Pieces.{piece}
 use Rattle.layout.specs.Pseudos.{itemKind, reservedWords}
-use Rattle.layout.specs.State.{ItemLine}
+use Rattle.layout.specs.State.{ItemLine, Items}
 use Rattle.layout.specs.Records.{four, fieldBytes, itemFields, itemRecordAt, tableOf}
 use Rattle.layout.specs.Layouts.{ItemAt, emission, itemAt, emit, itemRow}
 use Rattle.layout.specs.Addresses.{addressAt, labelAddress}
 use Rattle.layout.specs.Rounds.{constant}
 use Rattle.layout.specs.declared.addresses.Starts.{Starts}
-use Rattle.layout.specs.code.Fits.{Each, ItemFits, reservedIn}
+use Rattle.layout.specs.code.Fits.{Each, ItemFits, Consecutive}
 use Rattle.layout.specs.code.Emits.{Unemitted, emittedIn, EmitLeft}
 use Rattle.layout.specs.code.Steps.{Some, Agrees}
 use Rattle.layout.specs.code.Placed.{PlaceCoded}
@@ -32,9 +32,9 @@ use Rattle.layout.specs.declared.state.Section.the-variants as section
 use Rattle.layout.specs.code.Stands.{itemSoFar}
 use Rattle.layout.proofs.ByteLaws.{length-put, put-lent, put-pad}
 use Rattle.layout.proofs.TableLaws.{table-set, table-lent, read-four}
-use Rattle.layout.proofs.Gives.{Comes}
 use Rattle.layout.proofs.StepLaws.{Agreed, agreed, agreed-refused}
-use Rattle.layout.proofs.Emissions.{WordsFit, PseudoRefusal, emission-fits}
+use Rattle.layout.proofs.Kept.{consecutive-next, consecutive-up}
+use Rattle.layout.proofs.Emissions.{emission-sized}
 use Rattle.layout.proofs.PseudoLaws.{kind-small}
 
 -- an item before it is emitted, as its record has it
@@ -48,19 +48,19 @@ row-sized : (x : ItemAt) → length (fieldBytes (itemRow x)) ≡ itemSize
 unfolding fieldBytes littleEndian
 row-sized x = refl
 
--- what is emitted, and what is left: ws the words so far, done the items, todo those that are left
-pub record Emit (base : ℕ) (const : List ℕ → Option ℤ) (label : List ℕ → Option ℕ) (t : List ℕ) (xs : List ItemLine) (done : List ItemAt)
+-- what is emitted of σ, and what is left: ws the words so far, done the items, todo those that are left
+pub record Emit (base : ℕ) (const : List ℕ → Option ℤ) (label : List ℕ → Option ℕ) (t : List ℕ) (σ : Items) (done : List ItemAt)
     (todo : List ItemLine) (ws b w : List ℕ) : Type 0 where
   pub text : length t ≤ textLimit
-  pub counted : length done + length todo ≡ length xs
+  pub counted : length done + length todo ≡ length (σ .list)
   pub rows : b ≡ tableOf (length b) itemRow (done ++ map unemitted todo)
   pub words : w ≡ padded (length w) ws
-  pub room : length ws + reservedIn todo ≤ reservedIn xs
+  pub consecutive : Consecutive (length ws) todo (σ .words)
   pub fits : Each (ItemFits t) todo
-  pub goes : emit base const label todo ws done ≡ emit base const label xs [] []
+  pub goes : emit base const label todo ws done ≡ emit base const label (σ .list) [] []
 
-module _ (base : ℕ) (const : List ℕ → Option ℤ) (label : List ℕ → Option ℕ) (t : List ℕ) (xs : List ItemLine) (done : List ItemAt) (x : ItemLine)
-    (rest : List ItemLine) (ws b w : List ℕ) (m : Emit base const label t xs done (x ∷ rest) ws b w) where
+module _ (base : ℕ) (const : List ℕ → Option ℤ) (label : List ℕ → Option ℕ) (t : List ℕ) (σ : Items) (done : List ItemAt) (x : ItemLine)
+    (rest : List ItemLine) (ws b w : List ℕ) (m : Emit base const label t σ done (x ∷ rest) ws b w) where
   abbrev rows : List ItemAt
   rows = done ++ map unemitted (x ∷ rest)
 
@@ -100,19 +100,16 @@ module _ (base : ℕ) (const : List ℕ → Option ℤ) (label : List ℕ → Op
   item-source = m .fits .0 .source .is
 
   pub emit-refused : (n : ℕ) → emission const label (x .item) (x .source .bytes) ≡ refused n
-      → emit base const label xs [] [] ≡ refused (record { number = n; line = x .line })
+      → emit base const label (σ .list) [] [] ≡ refused (record { number = n; line = x .line })
   unfolding emit
   emit-refused n e = sym (m .goes) ∙ rw e refl
 
   -- its words stand behind those before it, and its record has its address and its first word
   module _ (vs : List ℕ) (e : emission const label (x .item) (x .source .bytes) ≡ value vs) where
-    pub words-reserved : length vs ≤ reservedWords (x .item) (x .source .bytes)
-    words-reserved = subst (λ (r : Result ℕ (List ℕ)). Comes (WordsFit const (x .item) (x .source .bytes)) PseudoRefusal r) e (emission-fits const label (x .item) (x .source .bytes)) .1
-
     pub emit-next : (b′ w′ : List ℕ) → length b′ ≡ length b → length w′ ≡ length w
         → b′ ≡ put (length done * itemSize) (fieldBytes (itemRow (itemAt base x (length ws)))) b → w′ ≡ put (length ws) vs w
-        → Emit base const label t xs (done ++ itemAt base x (length ws) ∷ []) rest (ws ++ vs) b′ w′
-    unfolding emit reservedIn
+        → Emit base const label t σ (done ++ itemAt base x (length ws) ∷ []) rest (ws ++ vs) b′ w′
+    unfolding emit
     emit-next b′ w′ lb lw eb ew =
         let y = itemAt base x (length ws) in
         record {
@@ -121,42 +118,43 @@ module _ (base : ℕ) (const : List ℕ → Option ℤ) (label : List ℕ → Op
           rows = table-set itemRow itemSize row-sized b b′ rows (m .rows) (length done) y within lb eb
               ∙ ap (tableOf (length b′) itemRow) (set-at done (unemitted x) (map unemitted rest) y (length done) refl ∙ sym (append-assoc done (y ∷ []) (map unemitted rest)));
           words = ew ∙ ap (put (length ws) vs) (m .words) ∙ put-pad (length w) (length ws) ws vs refl ∙ ap (λ (n : ℕ). padded n (ws ++ vs)) (sym lw);
-          room = omega (arith, m .room, words-reserved, length-append ws vs);
+          consecutive = consecutive-next (length ws) (length (ws ++ vs)) x rest (σ .words)
+              (omega (arith, length-append ws vs, emission-sized const label (x .item) (x .source .bytes) vs e)) (m .consecutive);
           fits = m .fits .1;
           goes = sym (rw e refl) ∙ m .goes;
         }
 
 -- ---- from the loop's places
 
-pub record Emitting (base : ℕ) (const : List ℕ → Option ℤ) (label : List ℕ → Option ℕ) (t : List ℕ) (xs : List ItemLine) (b w : List ℕ) (k at : ℕ) : Type 0 where
+pub record Emitting (base : ℕ) (const : List ℕ → Option ℤ) (label : List ℕ → Option ℕ) (t : List ℕ) (σ : Items) (b w : List ℕ) (k at : ℕ) : Type 0 where
   pub done : List ItemAt
   pub todo : List ItemLine
   pub ws : List ℕ
   pub place : k ≡ length done
   pub written : at ≡ length ws
-  pub emit : Emit base const label t xs done todo ws b w
+  pub emit : Emit base const label t σ done todo ws b w
 
-pub record ItemHere (base : ℕ) (const : List ℕ → Option ℤ) (label : List ℕ → Option ℕ) (t : List ℕ) (xs : List ItemLine) (b w : List ℕ) (k at : ℕ) : Type 0 where
+pub record ItemHere (base : ℕ) (const : List ℕ → Option ℤ) (label : List ℕ → Option ℕ) (t : List ℕ) (σ : Items) (b w : List ℕ) (k at : ℕ) : Type 0 where
   pub done : List ItemAt
   pub one : ItemLine
   pub rest : List ItemLine
   pub ws : List ℕ
   pub place : k ≡ length done
   pub written : at ≡ length ws
-  pub emit : Emit base const label t xs done (one ∷ rest) ws b w
+  pub emit : Emit base const label t σ done (one ∷ rest) ws b w
 
-pub item-here : (base : ℕ) (const : List ℕ → Option ℤ) (label : List ℕ → Option ℕ) (t : List ℕ) (xs : List ItemLine) (b w : List ℕ) (k at : ℕ)
-    → Emitting base const label t xs b w k at → k < length xs → ItemHere base const label t xs b w k at
-item-here base const label t xs b w k at m h = by (m .todo) (m .emit)
+pub item-here : (base : ℕ) (const : List ℕ → Option ℤ) (label : List ℕ → Option ℕ) (t : List ℕ) (σ : Items) (b w : List ℕ) (k at : ℕ)
+    → Emitting base const label t σ b w k at → k < length (σ .list) → ItemHere base const label t σ b w k at
+item-here base const label t σ b w k at m h = by (m .todo) (m .emit)
   where
-    by : (todo : List ItemLine) → Emit base const label t xs (m .done) todo (m .ws) b w → ItemHere base const label t xs b w k at
+    by : (todo : List ItemLine) → Emit base const label t σ (m .done) todo (m .ws) b w → ItemHere base const label t σ b w k at
     by [] v = absurd (omega (arith, v .counted, m .place, h))
     by (x ∷ rest) v = record { done = m .done; one = x; rest = rest; ws = m .ws; place = m .place; written = m .written; emit = v }
 
 -- ---- in the code: i was i₀ and w was w₀, whatever those and the names stood for
 
-abbrev itemsIn : Scope → List ItemLine
-itemsIn z = z .state .rest .own .items .list
+abbrev itemsIn : Scope → Items
+itemsIn z = z .state .rest .own .items
 
 abbrev EmittingIn : Scope → (t i w : List ℕ) → ℕ → ℕ → Type 0
 EmittingIn z t i w k at = Emitting (z .base) (constant (z .known)) (labelAddress (z .base) (z .state)) t (itemsIn z) i w k at
@@ -185,16 +183,16 @@ module _ {t l n : List ℕ} {c : ℕ} {e x : List ℕ} {m : ℕ} {starts : Start
         emitting = λ u.
             record {
               done = [];
-              todo = itemsIn (u .scope);
+              todo = itemsIn (u .scope) .list;
               ws = [];
               place = refl;
               written = refl;
               emit = record {
                 text = u .names .labels .table .text;
                 counted = omega arith;
-                rows = u .items .bytes ∙ unemitted-rows (length i₀) (itemsIn (u .scope));
+                rows = u .items .bytes ∙ unemitted-rows (length i₀) (itemsIn (u .scope) .list);
                 words = u .zeros ∙ rw (sub-zero (length w₀)) refl;
-                room = omega arith;
+                consecutive = u .items .fits .consecutive;
                 fits = u .items .fits .each;
                 goes = refl;
               };
@@ -206,17 +204,18 @@ module _ {t l n : List ℕ} {c : ℕ} {e x : List ℕ} {m : ℕ} {starts : Start
     emit-few = omega (arith, u .items .counted, u .items .fits .few, u .items .limit)
 
     -- the room for all words
-    reserved-room : (reservedIn (itemsIn (u .scope)) ≤ wordLimit) × (reservedIn (itemsIn (u .scope)) ≤ length w₀)
-    reserved-room =
-        let f = u .items .fits in
-        (omega (arith, f .sum, f .room, u .items .word-limit), omega (arith, f .sum, f .room, u .lent))
+    words-room : (itemsIn (u .scope) .words ≤ wordLimit) × (itemsIn (u .scope) .words ≤ length w₀)
+    words-room = let f = u .items .fits in (omega (arith, f .room, u .items .word-limit), omega (arith, f .room, u .lent))
 
     module _ {i w : List ℕ} {k at : ℕ} (p : EmitLoop t l n c e x m starts i₀ count w₀ i w k at) where
+      so-far : at ≤ itemsIn (u .scope) .words
+      so-far = let q = p .emitting u in omega (arith, q .written, consecutive-up (length (q .ws)) (q .todo) _ (q .emit .consecutive))
+
       pub emit-low : at ≤ wordLimit
-      emit-low = let q = p .emitting u in omega (arith, q .written, q .emit .room, reserved-room .0)
+      emit-low = omega (arith, so-far, words-room .0)
 
       pub emit-within : at ≤ length w
-      emit-within = let q = p .emitting u in omega (arith, q .written, q .emit .room, reserved-room .1, p .words-sized)
+      emit-within = omega (arith, so-far, words-room .1, p .words-sized)
 
       pub emit-ends : count ≤ k → Agrees (EmitLeft i w) (value at) (emittedIn (u .scope))
       unfolding emit
@@ -231,6 +230,10 @@ module _ {t l n : List ℕ} {c : ℕ} {e x : List ℕ} {m : ℕ} {starts : Start
       module _ (more : k < count) where
         current : ItemHere (u .scope .base) (constant (u .scope .known)) (labelAddress (u .scope .base) (u .scope .state)) t (itemsIn (u .scope)) i w k at
         current = item-here _ _ _ t _ i w k at (p .emitting u) (omega (arith, u .items .counted))
+
+        -- its own words among them
+        behind-it : length (current .ws) + reservedWords (current .one .item) (current .one .source .bytes) ≤ itemsIn (u .scope) .words
+        behind-it = let h = current in consecutive-up _ (h .rest) _ (h .emit .consecutive .1)
 
         pub emit-lent : k * itemSize + itemSize ≤ length i
         emit-lent = let h = current in rw (h .place) (items-lent _ _ _ t _ (h .done) (h .one) (h .rest) (h .ws) i w (h .emit))
@@ -251,14 +254,13 @@ module _ {t l n : List ℕ} {c : ℕ} {e x : List ℕ} {m : ℕ} {starts : Start
 
           -- what emitting it asks
           pub item-record-fits : (n : ℕ) → n ≡ length w - at → Some (ItemRecordFits t n r)
-          unfolding reservedIn
           item-record-fits n size =
               let h = current in
               record {
                 it = h .one .item;
                 stands = record {
                   kind = ap (λ (q : ItemRecord). q .kind) item-is;
-                  room = rw source-is (omega (arith, size, h .written, h .emit .room, reserved-room .1, p .words-sized));
+                  room = rw source-is (omega (arith, size, h .written, behind-it, words-room .1, p .words-sized));
                 };
               }
 
@@ -296,12 +298,11 @@ module _ {t l n : List ℕ} {c : ℕ} {e x : List ℕ} {m : ℕ} {starts : Start
             emitted n f = agreed (WordsPut d d′) n (emissionIn (u .scope) (current .one .item) (current .one .source .bytes)) (told (value n) f)
 
             pub emit-more : (more-words : ℕ) → Emitted-so d d′ (value more-words) → (at + more-words ≤ wordLimit) × (at + more-words ≤ length w)
-            unfolding reservedIn
             emit-more n f =
                 let h = current in
                 let b = emitted n f in
-                let few = words-reserved _ _ _ t _ (h .done) (h .one) (h .rest) (h .ws) i w (h .emit) (b .it) (b .is) in
-                (omega (arith, b .stands .counted, few, h .written, h .emit .room, reserved-room .0), omega (arith, b .stands .counted, few, h .written, h .emit .room, reserved-room .1, p .words-sized))
+                let sized = emission-sized _ _ (h .one .item) (h .one .source .bytes) (b .it) (b .is) in
+                (omega (arith, b .stands .counted, sized, h .written, behind-it, words-room .0), omega (arith, b .stands .counted, sized, h .written, behind-it, words-room .1, p .words-sized))
 
             pub emit-goes : (at′ : ℕ) → Emitted-so d d′ (value at′) → d ≡ take (length w - at) (drop at w)
                 → (a : ℕ) → ((q : PlaceCoded starts (r .address)) → a ≡ addressAt (q .base) (q .state) (q .place))

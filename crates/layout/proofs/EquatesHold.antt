@@ -3,17 +3,18 @@
 use Prim.Native.Nat.{ℕ}
 use mathlib.Core.Path.{_≡_, refl, sym, _∙_, ap, ap₂, subst}
 use mathlib.Core.List.{List, [], _∷_, _++_, map, append-assoc}
-use mathlib.Core.Bool.{Bool, true, false, true≢false}
+use mathlib.Core.Bool.{Bool, true, false, _||_, true≢false}
 use mathlib.Core.Option.{Option, none, some}
 use lib.IntN.{ℤ}
 use Rattle.numbers.specs.Text.{same}
 use Rattle.numbers.proofs.Bools.{none-some, or-left, or-right}
-use Rattle.numbers.proofs.Prefixes.{same-equal}
+use Rattle.numbers.proofs.Prefixes.{same-equal, same-refl}
 use Rattle.layout.specs.State.{Label, State}
 use Rattle.layout.specs.Stage.{isLabel}
 use Rattle.layout.specs.Addresses.{LabelAt, placed, lessLabel, insert, ordered, addressAt, addressIn, labelAddress}
 use Rattle.layout.specs.Rounds.{Found, Known, orElse, foundValue, constant, asNumber, look, turn}
 use Rattle.layout.specs.Layouts.{EquateAt, Layout, consFound, foundEquates}
+use Rattle.layout.specs.Chains.{Among, first, later}
 use Rattle.layout.specs.Demands.{recordedValue, recordedAddress, finalValue, EquateHolds, OneByOne}
 use Rattle.layout.specs.code.Fits.{Each}
 use Rattle.layout.specs.code.Names.{knownName}
@@ -90,6 +91,15 @@ insert-address n x (y ∷ ys) g =
     by true c p d q h = ap₂ (λ (c d : Bool). pick c A (pick d B (W ys))) p q
     by false c p d q h = ap (λ (d : Bool). pick d B (W (insert x ys))) q ∙ behind c d p q (h ∙ ap (λ (c : Bool). pick c A (W ys)) p)
 
+among-label : {x : Label} {ls : List Label} → Among x ls → isLabel (x .name .bytes) ls ≡ true
+unfolding isLabel
+among-label {x = x} first = rw (isLabel, same-refl (x .name .bytes)) refl
+among-label {x = x} (later {y = y} {xs = ls} a) = by (same (y .name .bytes) (x .name .bytes)) (among-label a)
+  where
+    by : (c : Bool) → isLabel (x .name .bytes) ls ≡ true → c || isLabel (x .name .bytes) ls ≡ true
+    by true e = refl
+    by false e = e
+
 module _ (base : ℕ) (σ : State) where
   others : (n : List ℕ) (ls : List Label) → isLabel n ls ≡ false → Each (Other n) (ordered (map (placed base σ) ls))
   unfolding ordered isLabel
@@ -107,6 +117,18 @@ module _ (base : ℕ) (σ : State) where
     where
       pick : Bool → Option ℕ → Option ℕ → Option ℕ
       pick c a b = elim c [ true ↦ a | false ↦ b ]
+
+  -- a label of a name that no other has is found by it
+  pub address-among : {x : Label} {ls : List Label} → Apart ls → Among x ls → addressIn base σ ls (x .name .bytes) ≡ some (addressAt base σ (x .place))
+  unfolding addressIn
+  address-among {x = x} g first = rw (addressIn, same-refl (x .name .bytes)) refl
+  address-among {x = x} g (later {y = y} {xs = ls} a) = by (same (y .name .bytes) (x .name .bytes)) refl (address-among (g .1) a)
+    where
+      by : (c : Bool) → same (y .name .bytes) (x .name .bytes) ≡ c → addressIn base σ ls (x .name .bytes) ≡ some (addressAt base σ (x .place))
+          → elim c [ true ↦ some (addressAt base σ (y .place)) | false ↦ addressIn base σ ls (x .name .bytes) ] ≡ some (addressAt base σ (x .place))
+      by true e h =
+          absurd (true≢false (sym (among-label a) ∙ ap (λ (n : List ℕ). isLabel n ls) (sym (same-equal (y .name .bytes) (x .name .bytes) e)) ∙ g .0))
+      by false e h = h
 
 -- ---- each equate
 

@@ -119,11 +119,11 @@ module _ (s b : List ℕ) (look : List ℕ → Option ℕ) (r : Address) (e : ad
   pub label-some : (a : ℕ) → r ≡ address.At a → f a ≡ onLabel (look (oneSpaced s)) f
   label-some a h = rw (← g, ← e, h) refl
 
--- what an li loads, likewise
-module _ (s b : List ℕ) (const : List ℕ → Option ℤ) (r : Imm) (f : ℤ → Expanded)
-    (e : immThen r f ≡ onNumber (immOf (oneSpaced b)) (oneSpaced b) const f) (g : b ≡ s) where
+-- what an li loads, likewise: o is what its operand reads as
+module _ (s b : List ℕ) (const : List ℕ → Option ℤ) (o : Option ℤ) (r : Imm) (f : ℤ → Expanded) (e : immThen r f ≡ onNumber o (oneSpaced b) const f)
+    (i : o ≡ immOf (oneSpaced b)) (g : b ≡ s) where
   pub imm-none : r ≡ imm.Invalid → refused 19 ≡ onNumber (immOf (oneSpaced s)) (oneSpaced s) const f
-  imm-none h = rw (← g) (rw h at e)
+  imm-none h = rw (← g, ← i) (rw h at e)
 
   pub imm-some : (z : ℤ) → r ≡ imm.Value z → f z ≡ onNumber (immOf (oneSpaced s)) (oneSpaced s) const f
-  imm-some z h = rw (← g) (rw h at e)
+  imm-some z h = rw (← g, ← i) (rw h at e)

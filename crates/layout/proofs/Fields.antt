@@ -33,15 +33,15 @@ use Rattle.layout.specs.Layouts.{EquateAt, ItemAt, Layout, emission, Emi
 use Rattle.layout.specs.Layouts.{resolve, layout, afterLines, layoutOf, labelRow, equateRow, itemRow, Counts, Buffers, Answer, answerOf, callOf}
 use Rattle.layout.specs.Chains.{Among}
 use Rattle.layout.specs.code.Places.{sectionLimit, PlaceFits}
-use Rattle.layout.specs.code.Fits.{Each, Inside, LabelFits, EquateFits, ItemFits, LabelWordFits, Fits, reservedIn}
+use Rattle.layout.specs.code.Fits.{Each, Inside, LabelFits, EquateFits, ItemFits, LabelWordFits, Consecutive, Fits}
 use Rattle.layout.specs.code.Orders.{LabelAtFits}
 use Rattle.layout.proofs.Each.{_and_, each-append, each-weaker, each-map, each-mapped}
 use Rattle.layout.proofs.Gives.{Comes, comes-so, and-then-comes}
 use Rattle.layout.proofs.ByteLaws.{length-little-endian, length-put, length-padded}
 use Rattle.layout.proofs.TableLaws.{table-length}
 use Rattle.layout.proofs.Emissions.{IsWord, WordsFit, PseudoRefusal, emission-fits}
-use Rattle.layout.proofs.Kept.{stage-fits}
-use Rattle.layout.proofs.PseudoLaws.{kind-small}
+use Rattle.layout.proofs.Kept.{consecutive-next, stage-fits}
+use Rattle.layout.proofs.PseudoLaws.{kind-small, words-few}
 use Rattle.layout.proofs.OrderLaws.{ordered-permutes, permuted-length, permuted-each}
 use Rattle.layout.proofs.RoundHistory.{At, each-of, of-each, shown, triangle, ToldFound, AllFound, IsFound, none-pending}
 use Rattle.layout.proofs.ChainLaws.{among-at, among-each, first-left}
@@ -144,24 +144,25 @@ module _ (t : List ℕ) where
       by none = g .0 .line
       by (some a) = length-put (w .at) (littleEndian 4 a) bytes (omega (arith, length-little-endian 4 a, e, g .0 .place)) ∙ e
 
-  -- the items' words and records, where ws and is were there before
-  pub record EmitsFit (xs : List ItemLine) (ws : List ℕ) (is : List ItemAt) (x : Emitted) : Type 0 where
-    pub few : length (x .words) ≤ length ws + reservedIn xs
+  -- m words, and the items' records, where is were there before
+  pub record EmitsFit (m : ℕ) (xs : List ItemLine) (is : List ItemAt) (x : Emitted) : Type 0 where
+    pub sized : length (x .words) ≡ m
     pub words : Each IsWord (x .words)
     pub count : length (x .items) ≡ length is + length xs
     pub items : Each (ItemAtFits t (length (x .words))) (x .items)
 
   module _ (base : ℕ) (low : base ≤ baseLimit) (const : List ℕ → Option ℤ) (label : List ℕ → Option ℕ) where
-    pub emit-fits : (xs : List ItemLine) (ws : List ℕ) (is : List ItemAt) → Each (ItemFits t) xs → Each IsWord ws
-        → Each (ItemAtFits t (length ws)) is → Comes (EmitsFit xs ws is) InText (emit base const label xs ws is)
-    unfolding emit reservedIn
-    emit-fits [] ws is g h i = record { few = omega arith; words = h; count = omega arith; items = i }
-    emit-fits (x ∷ xs) ws is g h i =
-        and-then-comes (WordsFit const (x .item) s) (EmitsFit (x ∷ xs) ws is) InText (atLine (x .line) (emission const label (x .item) s))
+    pub emit-fits : (m : ℕ) (xs : List ItemLine) (ws : List ℕ) (is : List ItemAt) → Consecutive (length ws) xs m → Each (ItemFits t) xs
+        → Each IsWord ws → Each (ItemAtFits t (length ws)) is → Comes (EmitsFit m xs is) InText (emit base const label xs ws is)
+    unfolding emit
+    emit-fits m [] ws is c g h i = record { sized = c; words = h; count = omega arith; items = i }
+    emit-fits m (x ∷ xs) ws is c g h i =
+        and-then-comes (WordsFit (x .item) s) (EmitsFit m (x ∷ xs) is) InText (atLine (x .line) (emission const label (x .item) s))
         (λ vs. emit base const label xs (ws ++ vs) is′)
         (line-fits (emission const label (x .item) s) (emission-fits const label (x .item) s))
-        (λ vs f. comes-so (EmitsFit xs (ws ++ vs) is′) (EmitsFit (x ∷ xs) ws is) InText InText (more vs f) (λ r q. q)
-        (emit base const label xs (ws ++ vs) is′) (emit-fits xs (ws ++ vs) is′ (g .1) (each-append IsWord ws vs h (f .2)) (each vs f)))
+        (λ vs f. comes-so (EmitsFit m xs is′) (EmitsFit m (x ∷ xs) is) InText InText more (λ r q. q) (emit base const label xs (ws ++ vs) is′)
+        (emit-fits m xs (ws ++ vs) is′ (consecutive-next (length ws) (length (ws ++ vs)) x xs m (omega (arith, length-append ws vs, f .0)) c) (g .1)
+        (each-append IsWord ws vs h (f .1)) (each vs f)))
       where
         s : List ℕ
         s = x .source .bytes
@@ -172,12 +173,12 @@ module _ (t : List ℕ) where
         is′ : List ItemAt
         is′ = is ++ y ∷ []
 
-        line-fits : (e : Result ℕ (List ℕ)) → Comes (WordsFit const (x .item) s) PseudoRefusal e
-            → Comes (WordsFit const (x .item) s) InText (atLine (x .line) e)
+        line-fits : (e : Result ℕ (List ℕ)) → Comes (WordsFit (x .item) s) PseudoRefusal e
+            → Comes (WordsFit (x .item) s) InText (atLine (x .line) e)
         line-fits (value vs) f = f
         line-fits (refused n) f = g .0 .line
 
-        each : (vs : List ℕ) → WordsFit const (x .item) s vs → Each (ItemAtFits t (length (ws ++ vs))) is′
+        each : (vs : List ℕ) → WordsFit (x .item) s vs → Each (ItemAtFits t (length (ws ++ vs))) is′
         each vs f =
             let longer : length (ws ++ vs) ≡ length ws + length vs = length-append ws vs in
             let old = each-weaker (ItemAtFits t (length ws)) (ItemAtFits t (length (ws ++ vs)))
@@ -193,20 +194,14 @@ module _ (t : List ℕ) where
                 address = omega (arith, low, g .0 .place);
                 line = g .0 .line;
                 kind = kind-small (x .item);
-                first = rw longer (omega (arith, f .0));
+                first = rw longer (omega (arith, f .0, words-few (x .item) s .0));
                 source = g .0 .source;
               },
               tt,
             )
 
-        more : (vs : List ℕ) → WordsFit const (x .item) s vs → (z : Emitted) → EmitsFit xs (ws ++ vs) is′ z → EmitsFit (x ∷ xs) ws is z
-        more vs f z q =
-            record {
-              few = omega (arith, q .few, length-append ws vs, f .1);
-              words = q .words;
-              count = omega (arith, q .count, length-append is (y ∷ []));
-              items = q .items;
-            }
+        more : (z : Emitted) → EmitsFit m xs is′ z → EmitsFit m (x ∷ xs) is z
+        more z q = record { sized = q .sized; words = q .words; count = omega (arith, q .count, length-append is (y ∷ [])); items = q .items }
 
 -- every address is below 2^32
 pub place-below : (base : ℕ) (σ : State) (p : Place) → base ≤ baseLimit → length (σ .rest .own .stored .bytes) ≤ dataLimit → PlaceFits p
@@ -294,11 +289,11 @@ module _ (t : List ℕ) (short : length t ≤ textLimit) (base : ℕ) (low : bas
 
     accepted-fits : (bytes : List ℕ) → length bytes ≡ length (σ .rest .own .stored .bytes)
         → (x : Turns) → AllFound (turn base σ) (σ .rest .equates) (x .known) (x .evaluations)
-        → (e : Emitted) → EmitsFit t (σ .rest .own .items .list) [] [] e → LayoutFits t k (layout base σ bytes x e)
+        → (e : Emitted) → EmitsFit t (σ .rest .own .items .words) (σ .rest .own .items .list) [] e → LayoutFits t k (layout base σ bytes x e)
     accepted-fits bytes b x d e g =
         record {
           text = short;
-          words = omega (arith, g .few, f .rest .own .items .sum, f .rest .own .items .room);
+          words = rw (g .sized) (f .rest .own .items .room);
           eachWord = g .words;
           dataBytes = rw b (f .rest .own .stored .room);
           bssSize = f .rest .own .bss;
@@ -348,8 +343,9 @@ module _ (t : List ℕ) (short : length t ≤ textLimit) (base : ℕ) (low : bas
         (fill-fits t label (own .stored .labelWords) n (own .stored .bytes) refl (f .rest .own .stored .each)) (λ bytes b.
         and-then-comes Found-all (LayoutFits t k) (InText t) (resolve base σ es) (λ x. andThen (emitting x) (λ e. value (all bytes x e)))
         (comes-so Found-all Found-all (RoundsRefused base σ es) (InText t) (λ x d. d) rounds-line (resolve base σ es) (all-end base σ es)) (λ x d.
-        and-then-comes (EmitsFit t (own .items .list) [] []) (LayoutFits t k) (InText t) (emitting x) (λ e. value (all bytes x e))
-        (emit-fits t base low (constant (x .known)) label (own .items .list) [] [] (f .rest .own .items .each) tt tt)
+        and-then-comes (EmitsFit t (own .items .words) (own .items .list) []) (LayoutFits t k) (InText t) (emitting x) (λ e. value (all bytes x e))
+        (emit-fits t base low (constant (x .known)) label (own .items .words) (own .items .list) [] [] (f .rest .own .items .consecutive)
+        (f .rest .own .items .each) tt tt)
         (accepted-fits bytes b x d)))
 
 -- a byte above 127 stands in a line of the text

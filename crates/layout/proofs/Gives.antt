@@ -13,6 +13,11 @@ module _ {R A : Type 0} where
   abbrev pub Gives : (A → Type 0) → Result R A → Type 0
   Gives P r = Comes P (λ _. Unit) r
 
+  -- of which nothing is said
+  pub gives-any : (x : Result R A) → Gives (λ _. Unit) x
+  gives-any (value a) = tt
+  gives-any (refused r) = tt
+
   -- what follows from both
   pub comes-so : (P P′ : A → Type 0) (Q Q′ : R → Type 0) → ((a : A) → P a → P′ a) → ((r : R) → Q r → Q′ r)
       → (x : Result R A) → Comes P Q x → Comes P′ Q′ x

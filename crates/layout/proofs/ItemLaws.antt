@@ -3,21 +3,17 @@ use Prim.Native.Nat.{ℕ, _+_, _*_, _≤_, _<_}
 use native.Mathlib.Omega.{arith}
 use mathlib.Core.Path.{_≡_, refl, sym, ap, _∙_}
 use mathlib.Core.List.{List, [], _∷_}
-use mathlib.Core.Option.{Option, none, some}
+use mathlib.Core.Option.{Option}
 use lib.ListN.{length, length-append}
-use lib.IntN.{ℤ}
 use borrow.Author.Tests.{le-ltb, lt-ltb, le-leb, lt-leb}
 use Rattle.numbers.specs.declared.text.Span.{Span}
 use Rattle.numbers.specs.Results.{value, refused}
-use Rattle.numbers.specs.Ints.{isSigned12}
-use Rattle.numbers.specs.Numbers.{immOf}
 use Rattle.numbers.specs.code.Spans.{spanned}
 use Rattle.layout.specs.declared.limits.Room.{Room}
 use Rattle.layout.specs.declared.state.ItemCount.{ItemCount}
 use Rattle.layout.specs.declared.state.ItemStep.{ItemStep}
 use Rattle.layout.specs.declared.records.ItemRecord.{ItemRecord}
 use Rattle.layout.specs.declared.pseudo.Pseudo.{Pseudo}
-use Rattle.layout.specs.declared.pseudo.Pseudo.the-variants as pseudos
 use Rattle.layout.specs.declared.pseudo.LineKind.{LineKind}
 use Rattle.layout.specs.declared.pseudo.LineKind.the-variants as kind
 use Rattle.layout.specs.declared.pseudo.TextLine.{TextLine}
@@ -25,7 +21,7 @@ use Rattle.layout.specs.declared.pseudo.TextLine.the-variants as line
 use Rattle.layout.specs.Bytes.{littleEndian, put}
 use Rattle.layout.specs.Limits.{itemSize}
 use Rattle.layout.specs.Records.{fieldBytes, itemFields}
-use Rattle.layout.specs.Pseudos.{Item, ordinary, pseudo, other, itemOf, pseudoOperands, liNumber, liWords, reservedWords, itemKind}
+use Rattle.layout.specs.Pseudos.{Item, ordinary, pseudo, other, itemOf, reservedWords, itemKind}
 use Rattle.layout.specs.State.{ItemLine}
 use Rattle.layout.specs.Stage.{addItem, textLine}
 use Rattle.layout.specs.code.Kinds.{textLineCode, kindItem, kindSource}
@@ -35,7 +31,7 @@ use Rattle.layout.specs.code.Stands.{ItemsStand, itemSoFar, itemsOf}
 use Rattle.layout.proofs.ByteLaws.{length-put}
 use Rattle.layout.proofs.TableLaws.{table-more}
 use Rattle.layout.proofs.SpanLaws.{within-size, within-inside}
-use Rattle.layout.proofs.Each.{cond-has}
+use Rattle.layout.proofs.PseudoLaws.{words-few}
 use Rattle.layout.proofs.Kept.{add-item-fits}
 
 item-sized : (x : ItemLine) → length (fieldBytes (itemSoFar x)) ≡ itemSize
@@ -82,32 +78,10 @@ module _ (t : List ℕ) (k : Room) (c : ItemCount) (b b′ : List ℕ) (line : �
           bytes = table-more itemSoFar itemSize item-sized b b′ (σ .list) (s .bytes) (c .items) x (s .counted) l p′;
         })
 
--- an item reserves at most 11 words
-pub words-few : (i : Option Pseudo) (s : List ℕ) → reservedWords i s ≤ 11
-words-few none s = omega arith
-words-few (some pseudos.Li) s = by (pseudoOperands s)
-  where
-    number : (z : Option ℤ) → liNumber z ≤ 11
-    number none = omega arith
-    number (some z) = cond-has (λ (n : ℕ). n ≤ 11) (isSigned12 z) 1 2 (omega arith) (omega arith)
-
-    by : (os : List (List ℕ)) → liWords os ≤ 11
-    by [] = omega arith
-    by (a ∷ []) = omega arith
-    by (a ∷ o ∷ os) = number (immOf o)
-words-few (some pseudos.La) s = omega arith
-words-few (some pseudos.Push) s = omega arith
-words-few (some pseudos.Pop) s = omega arith
-words-few (some pseudos.Print) s = omega arith
-words-few (some pseudos.PrintStr) s = omega arith
-words-few (some pseudos.Read) s = omega arith
-words-few (some pseudos.ReadByte) s = omega arith
-words-few (some pseudos.Random) s = omega arith
-
 -- ---- a text line, by the kind that the code finds
 
 pub kind-few : (t : List ℕ) (x : LineKind) (m : ℕ) → m ≡ reservedWords (kindItem x) (spanned t (kindSource x)) → m ≤ 11
-kind-few t x m e = rw e (words-few (kindItem x) (spanned t (kindSource x)))
+kind-few t x m e = rw e (words-few (kindItem x) (spanned t (kindSource x)) .1)
 
 module _ (t : List ℕ) (q : Span) (found : TextLine) (e : found ≡ textLineCode (itemOf (spanned t q)) q) where
   pub kind-within : (x : LineKind) → found ≡ line.Item x → SpanWithin t q → SpanWithin t (kindSource x)

@@ -1,9 +1,10 @@
--- The items of an accepted layout: each has its words between its first and the next item's, and those of li and la load what they say.
-use Prim.Native.Nat.{ℕ, suc, _+_, _-_, _%_, _^_, _<_}
+-- The items of an accepted layout: each has its words between its first and the next item's, as many as it reserves, at its address; and those of li
+-- and la load what they say.
+use Prim.Native.Nat.{ℕ, suc, _+_, _-_, _*_, _%_, _^_, _<_}
 use mathlib.Core.Path.{_≡_, refl, sym, _∙_, ap, ap₂, subst}
 use mathlib.Core.Logic.{_⊎_, inl, inr}
 use mathlib.Core.List.{List, [], _∷_, _++_, map, append-nil, append-assoc}
-use mathlib.Core.Bool.{Bool, true, false, cond}
+use mathlib.Core.Bool.{Bool, true, false, cond, false≢true}
 use mathlib.Core.Option.{Option, none, some}
 use native.Mathlib.Omega.{arith}
 use lib.Dec.{leb}
@@ -30,14 +31,17 @@ use Rattle.encoder.proofs.Load.{pair-loads, single-loads}
 use Rattle.layout.specs.declared.pseudo.Pseudo.{Pseudo}
 use Rattle.layout.specs.declared.pseudo.Pseudo.the-variants.{Li, La}
 use Rattle.layout.specs.Refusals.{atLine}
-use Rattle.layout.specs.Pseudos.{pseudoOperands}
+use Rattle.layout.specs.Pseudos.{pseudoOperands, isSingle}
 use Rattle.layout.specs.Expansions.{onRegister, onLabel, liConstant, onNumber, liLoad, expansion}
 use Rattle.layout.specs.State.{ItemLine}
 use Rattle.layout.specs.Rounds.{asNumber}
 use Rattle.layout.specs.Layouts.{ItemAt, Layout, encoded, emission, Emitted, itemAt, emit}
 use Rattle.layout.specs.Demands.{recordedValue, recordedAddress, endsAt, itemWords, liSays, modulo32, Loads, ItemHolds, OneByOne}
+use Rattle.layout.specs.code.Fits.{Consecutive}
 use Rattle.layout.proofs.ResultLaws.{refused-value, value-same}
 use Rattle.layout.proofs.Gives.{Gives, comes-so}
+use Rattle.layout.proofs.Emissions.{emission-sized}
+use Rattle.layout.proofs.Kept.{consecutive-next}
 
 abbrev Words : Type 0
 Words = Result ℕ (List ℕ)
@@ -75,21 +79,17 @@ encoded-words (i ∷ is) (w ∷ ws) e =
 loads-as : (vs ws : List ℕ) (r v v′ : ℕ) → _≡_ {A = Words} (value ws) (value vs) → v ≡ v′ → LoadsIn ws r v → LoadsIn vs r v′
 loads-as vs ws r v v′ p q h = subst (λ (us : List ℕ). LoadsIn us r v′) (value-same p) (subst (λ (u : ℕ). LoadsIn ws r u) q h)
 
--- a number's load loads it
-number-loads : (rd : Register) (z : ℤ) (vs : List ℕ) → isSigned32 z ≡ true → rd .0 < 32 → andThen (liLoad rd z) encoded ≡ value vs
-    → LoadsIn vs (rd .0) (modulo32 z)
-unfolding encoded
-number-loads rd z vs s below e = by (isSigned12 z) refl e
-  where
-    by : (c : Bool) → isSigned12 z ≡ c → encoded (cond c (Addi rd x0 z ∷ []) (loadPair rd (bits 32 z))) ≡ value vs → LoadsIn vs (rd .0) (modulo32 z)
-    by true q e =
-        let r = single-loads rd z below q in
-        let w = encoded-words (Addi rd x0 z ∷ []) (r .0 ∷ []) (ap (λ (a : Result ℕ ℕ). a ∷ []) (r .1)) in
-        loads-as vs (r .0 ∷ []) (rd .0) (bits 32 z) (modulo32 z) (sym w ∙ e) (signed-bits z s) (r .2)
-    by false q e =
-        let r = pair-loads rd (bits 32 z) below in
-        let w = encoded-words (loadPair rd (bits 32 z)) (r .0) (r .1) in
-        loads-as vs (r .0) (rd .0) (bits 32 z % 2 ^ 32) (modulo32 z) (sym w ∙ e) (signed-mod z s) (r .2)
+-- a number's load loads it: a single addi one that it holds, the pair any, of upper part 0 too
+number-loads : (single : Bool) (rd : Register) (z : ℤ) (vs : List ℕ) → isSigned32 z ≡ true → (single ≡ true → isSigned12 z ≡ true) → rd .0 < 32
+    → andThen (liLoad single rd z) encoded ≡ value vs → LoadsIn vs (rd .0) (modulo32 z)
+number-loads true rd z vs s h below e =
+    let r = single-loads rd z below (h refl) in
+    let w = encoded-words (Addi rd x0 z ∷ []) (r .0 ∷ []) (ap (λ (a : Result ℕ ℕ). a ∷ []) (r .1)) in
+    loads-as vs (r .0 ∷ []) (rd .0) (bits 32 z) (modulo32 z) (sym w ∙ e) (signed-bits z s) (r .2)
+number-loads false rd z vs s h below e =
+    let r = pair-loads rd (bits 32 z) below in
+    let w = encoded-words (loadPair rd (bits 32 z)) (r .0) (r .1) in
+    loads-as vs (r .0) (rd .0) (bits 32 z % 2 ^ 32) (modulo32 z) (sym w ∙ e) (signed-mod z s) (r .2)
 
 module _ (const : List ℕ → Option ℤ) (label : List ℕ → Option ℕ) where
   -- the operands' register and what is loaded there
@@ -108,7 +108,7 @@ module _ (const : List ℕ → Option ℤ) (label : List ℕ → Option ℕ) whe
   abbrev saysLi : List ℕ → Option ℤ
   saysLi b = liSays (immOf b) (imm64Of b) (const b)
 
-  li-two : (a b vs : List ℕ) → andThen (onRegister (registerOf a) (λ rd. onNumber (immOf b) b const (liLoad rd))) encoded ≡ value vs
+  li-two : (a b vs : List ℕ) → andThen (onRegister (registerOf a) (λ rd. onNumber (immOf b) b const (liLoad (isSingle (immOf b)) rd))) encoded ≡ value vs
       → LoadsAs (a ∷ b ∷ []) vs saysLi
   li-two a b vs e = by (registerOf a) refl e
     where
@@ -121,7 +121,7 @@ module _ (const : List ℕ → Option ℤ) (label : List ℕ → Option ℕ) whe
       says : (o : Option ℤ) → immOf b ≡ o → saysLi b ≡ liSays o (imm64Of b) (const b)
       says o q = ap (λ (o : Option ℤ). liSays o (imm64Of b) (const b)) q
 
-      number : (n : ℕ) → registerOf a ≡ some n → (z : ℤ) → immOf b ≡ some z → andThen (liLoad (reg n) z) encoded ≡ value vs
+      number : (n : ℕ) → registerOf a ≡ some n → (z : ℤ) → immOf b ≡ some z → andThen (liLoad (isSigned12 z) (reg n) z) encoded ≡ value vs
           → LoadsAs (a ∷ b ∷ []) vs saysLi
       number n r z q e = which (imm-in32 b z q .1)
         where
@@ -129,7 +129,7 @@ module _ (const : List ℕ → Option ℤ) (label : List ℕ → Option ℕ) whe
           s = imm-in32 b z q .0
 
           loaded : LoadsIn vs n (modulo32 z)
-          loaded = number-loads (reg n) z vs s (register-below a n r) e
+          loaded = number-loads (isSigned12 z) (reg n) z vs s (λ w. w) (register-below a n r) e
 
           which : (imm64Of b ≡ some z) ⊎ (imm64Of b ≡ some (z +ℤ pos (2 ^ 32))) → LoadsAs (a ∷ b ∷ []) vs saysLi
           which (inl w) = made n r z (says (some z) q ∙ w) loaded
@@ -137,22 +137,22 @@ module _ (const : List ℕ → Option ℤ) (label : List ℕ → Option ℕ) whe
               made n r (z +ℤ pos (2 ^ 32)) (says (some z) q ∙ w) (subst (LoadsIn vs n) (sym (mod-up z s)) loaded)
 
       name : (n : ℕ) → registerOf a ≡ some n → immOf b ≡ none → (c : Bool) (o : Option ℤ) → const b ≡ o
-          → andThen (cond c (refused 19) (liConstant o (liLoad (reg n)))) encoded ≡ value vs → LoadsAs (a ∷ b ∷ []) vs saysLi
+          → andThen (cond c (refused 19) (liConstant o (liLoad false (reg n)))) encoded ≡ value vs → LoadsAs (a ∷ b ∷ []) vs saysLi
       name n r q true o w e = absurd (refused-value e)
       name n r q false none w e = absurd (refused-value e)
       name n r q false (some z) w e = small (isSigned32 z) refl e
         where
-          small : (c : Bool) → isSigned32 z ≡ c → andThen (cond c (liLoad (reg n) z) (refused 19)) encoded ≡ value vs
+          small : (c : Bool) → isSigned32 z ≡ c → andThen (cond c (liLoad false (reg n) z) (refused 19)) encoded ≡ value vs
               → LoadsAs (a ∷ b ∷ []) vs saysLi
-          small true s e = made n r z (says none q ∙ w) (number-loads (reg n) z vs s (register-below a n r) e)
+          small true s e = made n r z (says none q ∙ w) (number-loads false (reg n) z vs s (λ w. absurd (false≢true w)) (register-below a n r) e)
           small false s e = absurd (refused-value e)
 
-      then : (n : ℕ) → registerOf a ≡ some n → (o : Option ℤ) → immOf b ≡ o → andThen (onNumber o b const (liLoad (reg n))) encoded ≡ value vs
+      then : (n : ℕ) → registerOf a ≡ some n → (o : Option ℤ) → immOf b ≡ o → andThen (onNumber o b const (liLoad (isSingle o) (reg n))) encoded ≡ value vs
           → LoadsAs (a ∷ b ∷ []) vs saysLi
       then n r (some z) q e = number n r z q e
       then n r none q e = name n r q (startsWith (text "'") b) (const b) refl e
 
-      by : (o : Option ℕ) → registerOf a ≡ o → andThen (onRegister o (λ rd. onNumber (immOf b) b const (liLoad rd))) encoded ≡ value vs
+      by : (o : Option ℕ) → registerOf a ≡ o → andThen (onRegister o (λ rd. onNumber (immOf b) b const (liLoad (isSingle (immOf b)) rd))) encoded ≡ value vs
           → LoadsAs (a ∷ b ∷ []) vs saysLi
       by none r e = absurd (refused-value e)
       by (some n) r e = then n r (immOf b) refl e
@@ -239,6 +239,11 @@ module _ (const : List ℕ → Option ℤ) (label : List ℕ → Option ℕ) whe
             })
             (λ r u. u) (emit base const label xs (ws ++ vs) is′) (more (ws ++ vs) is′)
 
+    -- those behind the first
+    pub behind : (x : ItemLine) (xs : List ItemLine) (n m : ℕ) (vs : List ℕ) → emission const label (x .item) (x .source .bytes) ≡ value vs
+        → Consecutive n (x ∷ xs) m → Consecutive (n + length vs) xs m
+    behind x xs n m vs q = consecutive-next n (n + length vs) x xs m (ap (λ (k : ℕ). n + k) (emission-sized const label (x .item) (x .source .bytes) vs q))
+
     -- ---- each item of a layout whose records say what was looked up
 
     module _ (l : Layout) (equates : (b : List ℕ) → recordedValue (l .equates) b ≡ const b)
@@ -270,9 +275,9 @@ module _ (const : List ℕ → Option ℤ) (label : List ℕ → Option ℕ) whe
           }
 
       item-holds : (x : ItemLine) (above : List ItemAt) (n : ℕ) (vs : List ℕ) (below : List ItemAt)
-          → emission const label (x .item) (x .source .bytes) ≡ value vs → itemWords l (itemAt base x n) below ≡ vs
+          → emission const label (x .item) (x .source .bytes) ≡ value vs → itemWords l (itemAt base x n) below ≡ vs → x .offset ≡ 4 * n
           → ItemHolds base l x above (itemAt base x n) below
-      item-holds x above n vs below e w =
+      item-holds x above n vs below e w o =
           let s = x .source .bytes in
           let ws = itemWords l (itemAt base x n) below in
           record {
@@ -280,25 +285,28 @@ module _ (const : List ℕ → Option ℤ) (label : List ℕ → Option ℕ) whe
             line = refl;
             kind = refl;
             source = refl;
+            atWord = ap (λ (m : ℕ). base + m) o;
+            sized = ap length w ∙ emission-sized const label (x .item) s vs e;
             li = λ q. loads s vs ws saysLi _ (λ b. ap (liSays (immOf b) (imm64Of b)) (equates b)) w
                 (li-loads (pseudoOperands s) vs (ap (λ (o : Option Pseudo). emission const label o s) (sym q) ∙ e));
             la = λ q. loads s vs ws saysLa _ (λ b. ap asNumber (labels b)) w
                 (la-loads (pseudoOperands s) vs (ap (λ (o : Option Pseudo). emission const label o s) (sym q) ∙ e));
           }
 
-      in-order : {xs : List ItemLine} {n : ℕ} {ws : List ℕ} {is : List ItemAt} (pre : List ℕ) (above : List ItemAt) → length pre ≡ n
-          → l .words ≡ pre ++ ws → Emission xs n ws is → OneByOne (ItemHolds base l) xs above is
-      in-order pre above p w no-item = tt
-      in-order {n = n} pre above p w (an-item {x = x} {ws = ws} {is = is} vs q r) = (
-        item-holds x above n vs is q (middle pre vs ws n (endsAt l is) p (ends r all) w),
-        in-order (pre ++ vs) (above ++ itemAt base x n ∷ []) (omega (arith, length-append pre vs)) (w ∙ sym (append-assoc pre vs ws)) r,
+      in-order : {xs : List ItemLine} {n : ℕ} {ws : List ℕ} {is : List ItemAt} (m : ℕ) (pre : List ℕ) (above : List ItemAt) → length pre ≡ n
+          → l .words ≡ pre ++ ws → Emission xs n ws is → Consecutive n xs m → OneByOne (ItemHolds base l) xs above is
+      in-order m pre above p w no-item g = tt
+      in-order {n = n} m pre above p w (an-item {x = x} {xs = xs} {ws = ws} {is = is} vs q r) g = (
+        item-holds x above n vs is q (middle pre vs ws n (endsAt l is) p (ends r all) w) (g .0),
+        in-order m (pre ++ vs) (above ++ itemAt base x n ∷ []) (omega (arith, length-append pre vs)) (w ∙ sym (append-assoc pre vs ws)) r
+            (behind x xs n m vs q g),
       )
         where
           all : length (l .words) ≡ (n + length vs) + length ws
           all = ap length w ∙ length-append pre (vs ++ ws) ∙ omega (arith, length-append vs ws)
 
-      pub items-hold : (xs : List ItemLine) (x : Emitted) → l .words ≡ x .words → l .items ≡ x .items → EmittedAs xs [] [] x
-          → OneByOne (ItemHolds base l) xs [] (l .items)
-      items-hold xs x p q r =
+      pub items-hold : (xs : List ItemLine) (m : ℕ) (x : Emitted) → l .words ≡ x .words → l .items ≡ x .items → EmittedAs xs [] [] x
+          → Consecutive 0 xs m → OneByOne (ItemHolds base l) xs [] (l .items)
+      items-hold xs m x p q r g =
           subst (λ (is : List ItemAt). OneByOne (ItemHolds base l) xs [] is) (sym (q ∙ r .allItems))
-          (in-order [] [] refl (p ∙ r .allWords) (r .emits))
+          (in-order m [] [] refl (p ∙ r .allWords) (r .emits) g)

@@ -1,6 +1,6 @@
 -- What the line stage keeps: what has been laid out fits its room, part by part, and a refusal names a line of the text.
 use Prim.Native.Nat.{ℕ, suc, _+_, _-_, _*_, _≤_, _<_}
-use mathlib.Core.Path.{_≡_, refl, ap}
+use mathlib.Core.Path.{_≡_, refl, sym, ap, subst}
 use mathlib.Core.List.{List, [], _∷_, _++_}
 use mathlib.Core.Bool.{Bool, true, false, cond, _||_, true≢false, false≢true}
 use mathlib.Core.Option.{Option, none, some}
@@ -30,7 +30,7 @@ use Rattle.layout.specs.Stage.{isLabel, recorded, addLabel, labelStep, a
 use Rattle.layout.specs.Stage.{addLabelWord, dataWrite, dataLine, growBss, bssLine, inSection, withItems, withStored, withBss, withEquates}
 use Rattle.layout.specs.Stage.{withOwn, withRest, ownLine, statementStep, stepParsed, stepLine, lineStage}
 use Rattle.layout.specs.code.Places.{sectionLimit, PlaceFits}
-use Rattle.layout.specs.code.Fits.{Each, Inside, LabelFits, EquateFits, ItemFits, LabelWordFits, reservedIn}
+use Rattle.layout.specs.code.Fits.{Each, Inside, LabelFits, EquateFits, ItemFits, LabelWordFits, Consecutive}
 use Rattle.layout.specs.code.Fits.{LabelsFit, EquatesFit, ItemsFit, StoredFits, OwnFits, RestFits, Fits}
 use Rattle.layout.proofs.Each.{each-append, each-weaker}
 use Rattle.layout.proofs.Gives.{Comes, Gives, and-then-comes, and-then-gives, mapped-gives, at-line-comes}
@@ -71,10 +71,20 @@ recorded-each P x (l ∷ ls) g h = by (same (l .name .bytes) (x .name .bytes)) (
 
 -- ---- items
 
-pub reserved-more : (xs : List ItemLine) (x : ItemLine) → reservedIn (xs ++ x ∷ []) ≡ reservedIn xs + reservedWords (x .item) (x .source .bytes)
-unfolding reservedIn
-reserved-more [] x = omega arith
-reserved-more (y ∷ ys) x = omega (arith, reserved-more ys x)
+-- one more behind the others
+consecutive-more : (n : ℕ) (xs : List ItemLine) (x : ItemLine) (m : ℕ) → Consecutive n xs m → x .offset ≡ 4 * m
+    → Consecutive n (xs ++ x ∷ []) (m + reservedWords (x .item) (x .source .bytes))
+consecutive-more n [] x m g h = (rw g h, rw g refl)
+consecutive-more n (y ∷ xs) x m g h = (g .0, consecutive-more _ xs x m (g .1) h)
+
+-- those behind the first
+pub consecutive-next : (n n′ : ℕ) (x : ItemLine) (xs : List ItemLine) (m : ℕ) → n′ ≡ n + reservedWords (x .item) (x .source .bytes)
+    → Consecutive n (x ∷ xs) m → Consecutive n′ xs m
+consecutive-next n n′ x xs m e g = subst (λ (k : ℕ). Consecutive k xs m) (sym e) (g .1)
+
+pub consecutive-up : (n : ℕ) (xs : List ItemLine) (m : ℕ) → Consecutive n xs m → n ≤ m
+consecutive-up n [] m g = omega (arith, g)
+consecutive-up n (x ∷ xs) m g = omega (arith, consecutive-up _ xs m (g .1))
 
 -- ---- data
 
@@ -221,7 +231,7 @@ module _ (t : List ℕ) (k : Room) where
             let room : σ .words + n ≤ k .words = leb-true _ _ r in
             record {
               room = room;
-              sum = rw (reserved-more (σ .list) x, f .sum) refl;
+              consecutive = consecutive-more 0 (σ .list) x (σ .words) (f .consecutive) refl;
               few = rw (length-append (σ .list) (x ∷ [])) (omega (arith, ltb-true));
               each = each-append (ItemFits t) (σ .list) (x ∷ []) (f .each) (record { source = g; place = omega (arith, room); line = h }, tt);
             }
@@ -308,14 +318,13 @@ module _ (t : List ℕ) (k : Room) where
 -- ---- the whole stage
 
 pub start-fits : (t : List ℕ) (k : Room) → Fits t k start
-unfolding reservedIn
 start-fits t k =
     record {
       labels = record { few = omega arith; each = tt };
       rest = record {
         equates = record { few = omega arith; each = tt };
         own = record {
-          items = record { room = omega arith; sum = refl; few = omega arith; each = tt };
+          items = record { room = omega arith; consecutive = refl; few = omega arith; each = tt };
           stored = record { room = omega arith; few = omega arith; each = tt };
           bss = omega arith;
         };

@@ -56,6 +56,7 @@ pub mod CheckLaws
 pub mod EquatesHold
 pub mod FillLaws
 pub mod ItemsHold
+pub mod TextPlaces
 pub mod ConditionLaws
 pub mod AnswerLaws
 pub mod DemandLaws

@@ -13,7 +13,7 @@ use Rattle.numbers.specs.declared.operands.Operand.the-variants.{At, End}
 use Rattle.numbers.specs.Text.{text, startsWith, same, indexOf, before, oneSpaced}
 use Rattle.numbers.specs.code.Spans.{spanned}
 use Rattle.numbers.specs.code.Tables.{isWord, rows, indexIn}
-use Rattle.numbers.specs.Numbers.{spacedImmOf}
+use Rattle.numbers.specs.Numbers.{immOf, spacedImmOf}
 use Rattle.numbers.specs.Operands.{itemOperands}
 use Rattle.numbers.specs.code.Cursors.{itemOperandsFrom, itemOperandAt}
 use Rattle.numbers.proofs.Bools.{and-left, and-right, or-left, or-right}
@@ -24,8 +24,10 @@ use Rattle.layout.specs.declared.pseudo.Pseudo.{Pseudo}
 use Rattle.layout.specs.declared.pseudo.Pseudo.the-variants.{Li, La, Push, Pop, Print, PrintStr, Read, ReadByte, Random}
 use Rattle.layout.specs.declared.pseudo.LineKind.the-variants as kind
 use Rattle.layout.specs.declared.pseudo.TextLine.the-variants as line
-use Rattle.layout.specs.Pseudos.{Item, ordinary, pseudo, other, Spelling, spellings, itemIn, liNumber, liWords, pseudoKind, itemKind}
+use Rattle.layout.specs.Pseudos.{Item, ordinary, pseudo, other, Spelling, spellings, itemIn}
+use Rattle.layout.specs.Pseudos.{pseudoOperands, isSingle, liWords, reservedWords, pseudoKind, itemKind}
 use Rattle.layout.specs.code.Kinds.{itemNumber, SpellingTable, beginsAsPseudo, textLineCode}
+use Rattle.layout.proofs.Each.{cond-has}
 
 -- ---- one spelling
 
@@ -267,6 +269,29 @@ other-first (x ∷ xs) s h e = by (startsWith (x .name) s) refl (other-first xs 
     by true q more = absurd (false≢true (sym e ∙ begins-on (x .name) s q (and-left (beginsAsPseudo (x .name)) (begun xs) h)))
     by false q more = more
 
+-- ---- an item's words
+
+-- one at least, 11 at most
+abbrev Few : ℕ → Type 0
+Few n = (1 ≤ n) × (n ≤ 11)
+
+pub words-few : (o : Option Pseudo) (s : List ℕ) → Few (reservedWords o s)
+words-few none s = (omega arith, omega arith)
+words-few (some Li) s = by (pseudoOperands s)
+  where
+    by : (ops : List (List ℕ)) → Few (liWords ops)
+    by [] = (omega arith, omega arith)
+    by (a ∷ []) = (omega arith, omega arith)
+    by (a ∷ b ∷ bs) = cond-has Few (isSingle (immOf b)) 1 2 (omega arith, omega arith) (omega arith, omega arith)
+words-few (some La) s = (omega arith, omega arith)
+words-few (some Push) s = (omega arith, omega arith)
+words-few (some Pop) s = (omega arith, omega arith)
+words-few (some Print) s = (omega arith, omega arith)
+words-few (some PrintStr) s = (omega arith, omega arith)
+words-few (some Read) s = (omega arith, omega arith)
+words-few (some ReadByte) s = (omega arith, omega arith)
+words-few (some Random) s = (omega arith, omega arith)
+
 -- ---- what follows the first word
 
 -- an li's words by the operands that are found after its name
@@ -281,6 +306,7 @@ module _ (t : List ℕ) where
     pub li-one : itemOperandAt t next ≡ End → liWords (itemOperands (oneSpaced t)) ≡ 1
     li-one f = rw (li-operands, item-step t 0 p next e, item-end t next f) refl
 
-    pub li-two : (q : Span) (after : ℕ) → itemOperandAt t next ≡ At q after → liWords (itemOperands (oneSpaced t)) ≡ liNumber (spacedImmOf (spanned t q))
+    pub li-two : (q : Span) (after : ℕ) → itemOperandAt t next ≡ At q after
+        → liWords (itemOperands (oneSpaced t)) ≡ cond (isSingle (spacedImmOf (spanned t q))) 1 2
     unfolding spacedImmOf
     li-two q after f = rw (li-operands, item-step t 0 p next e, item-step t next q after f) refl

@@ -41,18 +41,18 @@ abbrev lent : ℕ → ℕ → ℕ → ℕ → ℕ → Lent
 lent w d l e i = record { words = w; dataBytes = d; labelBytes = l; equateBytes = e; itemBytes = i }
 
 pub record-cases :
-    -- 18 lines: two labels at one address; an equate found in round 2, three evaluations and then one; li reserves two words and emits one; a label
+    -- 18 lines: two labels at one address; an equate found in round 2, three evaluations and then one; an li by name, whose upper part is 0; a label
     -- word; labels in each section; room for one word, one byte and part of a record more
     (callOf
     (text "\n\n   w: print s10\nzy:\nabc: li t1, n\n push s3 \n\nn = qq.+2 # c\n.set r4,-4\n.equ qq.  r4 - 3\n.data\n"
     ++ text "dd: .half 0x1234, 0xFEDC\n.byte 9\n.align 4\nv: .word zy\n.bss\ne5: .skip 5\nf: .zero 6")
-    0x81234560 (lent 7 13 115 77 77)
+    0x81234560 (lent 8 13 115 77 77)
     ≡ record {
       number = 0;
       line = 0;
-      counts = record { words = 6; dataBytes = 12; dataBase = 0x81235560; bssSize = 11; labels = 7; equates = 3; items = 3; evaluations = 4 };
+      counts = record { words = 7; dataBytes = 12; dataBase = 0x81235560; bssSize = 11; labels = 7; equates = 3; items = 3; evaluations = 4 };
       buffers = record {
-        words = 0x3E800893 ∷ 0x000D0513 ∷ 0x00000073 ∷ 0xFFB00313 ∷ 0xFFC10113 ∷ 0x01312023 ∷ 0 ∷ [];
+        words = 0x3E800893 ∷ 0x000D0513 ∷ 0x00000073 ∷ 0x00000337 ∷ 0xFFB30313 ∷ 0xFFC10113 ∷ 0x01312023 ∷ 0 ∷ [];
         dataBytes = 0x34 ∷ 0x12 ∷ 0xDC ∷ 0xFE ∷ 9 ∷ 0 ∷ 0 ∷ 0 ∷ 0x6C ∷ 0x45 ∷ 0x23 ∷ 0x81 ∷ 0 ∷ [];
         labels =
             small 5 ++ small 1 ++ address 0x81 0x23 0x45 0x60 ++ small 2
@@ -71,7 +71,7 @@ pub record-cases :
         items =
             address 0x81 0x23 0x45 0x60 ++ small 2 ++ small 5 ++ small 0 ++ small 8 ++ small 9
             ++ address 0x81 0x23 0x45 0x6C ++ small 4 ++ small 1 ++ small 3 ++ small 27 ++ small 8
-            ++ address 0x81 0x23 0x45 0x74 ++ small 5 ++ small 3 ++ small 4 ++ small 37 ++ small 7
+            ++ address 0x81 0x23 0x45 0x74 ++ small 5 ++ small 3 ++ small 5 ++ small 37 ++ small 7
             ++ 0 ∷ 0 ∷ 0 ∷ 0 ∷ 0 ∷ [];
       };
     })
@@ -147,6 +147,41 @@ pub pseudo-cases :
     × (mapped (λ l. map (λ x. x .address) (l .labels)) (laid nine) ≡ value (168 ∷ []))
 unfolding computing
 pseudo-cases = (refl, refl, refl, refl, refl, refl, refl, refl, refl, refl, refl, refl, refl, refl, refl)
+
+-- ---- an li by name: document 02, W-202
+
+abbrev byName : List ℕ → Result Refusal (List ℕ)
+byName v = wordsAt (text "n = " ++ v ++ text "\nli a0, n")
+
+abbrev pub shrunk : List ℕ
+shrunk = text "n = 5\nli a0, n\nx: ecall"
+
+pub named-load-cases :
+    -- "lui with the upper part, 0 included, then addi"
+    (byName (text "5") ≡ value (0x00000537 ∷ 0x00550513 ∷ []))
+    × (byName (text "0") ≡ value (0x00000537 ∷ 0x00050513 ∷ []))
+    × (byName (text "-1") ≡ value (0x00000537 ∷ 0xFFF50513 ∷ []))
+    × (byName (text "2047") ≡ value (0x00000537 ∷ 0x7FF50513 ∷ []))
+    × (byName (text "2048") ≡ value (0x00001537 ∷ 0x80050513 ∷ []))
+    × (byName (text "-2048") ≡ value (0x00000537 ∷ 0x80050513 ∷ []))
+    × (byName (text "-2049") ≡ value (0xFFFFF537 ∷ 0x7FF50513 ∷ []))
+    × (byName (text "2147483647") ≡ value (0x80000537 ∷ 0xFFF50513 ∷ []))
+    × (byName (text "-2147483648") ≡ value (0x80000537 ∷ 0x00050513 ∷ []))
+    × (wordsAt (text "n = 5\nli x0, n") ≡ value (0x00000037 ∷ 0x00500013 ∷ []))
+    -- "An equate beyond 32 signed bits is still 19"
+    × (byName (text "2147483648") ≡ no 19 1)
+    × (byName (text "4294967295") ≡ no 19 1)
+    × (byName (text "-2147483649") ≡ no 19 1)
+    -- "a readable number" is what `parse_imm` reads, whatever is named so
+    × (wordsAt (text "5 = 9\nli a0, 5") ≡ value (0x00500513 ∷ []))
+    × (wordsAt (text "li a0, 'a'") ≡ value (0x06100513 ∷ []))
+    × (wordsAt (text "4294967296 = 7\nli a0, 4294967296") ≡ value (0x00000537 ∷ 0x00750513 ∷ []))
+    -- "Each item's address then equals the base plus four times its first word's index", and a label's is that of the word behind it
+    × (mapped (λ l. map (λ x. x .address) (l .items)) (laid shrunk) ≡ value (0 ∷ 8 ∷ []))
+    × (mapped (λ l. map (λ x. x .first) (l .items)) (laid shrunk) ≡ value (0 ∷ 2 ∷ []))
+    × (mapped (λ l. map (λ x. x .address) (l .labels)) (laid shrunk) ≡ value (8 ∷ []))
+unfolding computing
+named-load-cases = (refl, refl, refl, refl, refl, refl, refl, refl, refl, refl, refl, refl, refl, refl, refl, refl, refl, refl, refl)
 
 -- ---- records read back
 

@@ -48,7 +48,7 @@ use Rattle.layout.specs.Stage.{isLabel, recorded, addLabel, labelStep, a
 use Rattle.layout.specs.Stage.{addLabelWord, dataWrite, dataLine, growBss, bssLine, withItems, withStored, withBss, withEquates, withOwn}
 use Rattle.layout.specs.Stage.{withRest, ownLine, statementStep, stepParsed, stepLine, lineStage}
 use Rattle.layout.specs.code.Fits.{Each}
-use Rattle.layout.proofs.Each.{each-append, each-weaker, cond-has}
+use Rattle.layout.proofs.Each.{each-append, each-weaker, cond-has, test-has}
 use Rattle.layout.proofs.Gives.{Comes, and-then-comes, mapped-comes}
 use Rattle.layout.proofs.RefusalLaws.{Said, at-line-said}
 use Rattle.layout.proofs.Kept.{Grown, grow-data-fits, pieces-length}
@@ -65,10 +65,6 @@ ComesSaid P x = Comes P OfLines x
 
 abbrev Sound : {A : Type 0} → Result ℕ A → Type 0
 Sound x = ComesSaid (λ _. Unit) x
-
-test-has : {A : Type 0} (P : A → Type 0) (c : Bool) (x y : A) → P x → P y → P (elim c [ true ↦ x | false ↦ y ])
-test-has P true x y g h = g
-test-has P false x y g h = h
 
 -- ---- what a line's operands say
 
@@ -392,7 +388,7 @@ module _ (k : Room) (line : ℕ) where
           mapped-comes OwnHere (RestLaid (suc line)) OfLines (withOwn σ) (ownLine k line s (σ .own)) (λ x h. rest-laid (withOwn σ x) rising h)
           (own-laid k line (suc line) (omega arith) s (σ .own) more)
 
-  step-laid : (p : Piece) (σ : State) → Laid line σ → ComesSaid (Laid (suc line)) (stepLine k line p σ)
+  pub step-laid : (p : Piece) (σ : State) → Laid line σ → ComesSaid (Laid (suc line)) (stepLine k line p σ)
   unfolding stepParsed
   step-laid p σ g =
       let l = lineOf (σ .rest .own .section) p in
@@ -418,9 +414,11 @@ lines-laid k line (p ∷ ps) σ g =
     rw e (and-then-comes (Laid (suc line)) (Laid m) (Said lineNumbers m) (atLine line (stepLine k line p σ)) (lineStage k (suc line) ps)
     (at-line-said (Laid (suc line)) lineNumbers line m (stepLine k line p σ) (omega arith) (step-laid k line p σ g)) (lines-laid k (suc line) ps))
 
+pub start-laid : Laid 0 start
+start-laid = record { labels = tt; rest = record { equates = omega arith; words = omega arith; wordLines = tt; itemLines = tt } }
+
 -- the lines' own law
 pub stage-laid : (t : List ℕ) (k : Room) → StageLaid (length (lines t)) (lineStage k 0 (linePieces 0 (lines t)) start)
 stage-laid t k =
     rw (pieces-length 0 (lines t), zero-add (length (lines t))) at
-    (lines-laid k 0 (linePieces 0 (lines t)) start
-    (record { labels = tt; rest = record { equates = omega arith; words = omega arith; wordLines = tt; itemLines = tt } }))
+    (lines-laid k 0 (linePieces 0 (lines t)) start start-laid)

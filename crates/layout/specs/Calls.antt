@@ -1,4 +1,5 @@
--- What the call promises: the order's three demands. Document 01, "How much the layout promises".
+-- What the call promises: the order's three demands, and with the third what document 02's W-202 says of accepted layouts. Document 01, "How much the
+-- layout promises".
 use Prim.Native.Nat.{ℕ, _<_}
 use mathlib.Core.Path.{_≡_}
 use mathlib.Core.List.{List}
@@ -27,5 +28,5 @@ pub record Assembled (t : List ℕ) (base : ℕ) (k : Lent) (a : Answer) : Type 
   pub answered : Answered t k a
   -- demand 2: number, line, every count and the content of each output are what the definition gives, refused or accepted
   pub given : a ≡ callOf t base k
-  -- demand 3, all of it
+  -- demand 3, all of it, and of an accepted layout that each item and each text label stands at its word (W-202)
   pub demanded : Demanded t base k a

@@ -1,11 +1,12 @@
--- The order's demand 3: what holds of every accepted layout, and of the refusal 17. Said of the text and the records alone; σ is what the lines
--- say, as the line stage reads it (`BeforeRounds`).
+-- The order's demand 3: what holds of every accepted layout, and of the refusal 17; and of every accepted layout what document 02's W-202 says. Said of
+-- the text and the records alone; σ is what the lines say, as the line stage reads it (`BeforeRounds`).
 use Prim.Native.Nat.{ℕ, suc, _+_, _-_, _*_, _%_, _^_, _≤_, _<_, max}
 use mathlib.Core.Path.{_≡_}
 use mathlib.Core.Logic.{_↔_}
 use mathlib.Core.List.{List, [], _∷_, _++_}
 use mathlib.Core.Bool.{Bool, true, false, cond}
 use mathlib.Core.Option.{Option, none, some}
+use lib.Dec.{ltb}
 use lib.IntN.{ℤ, pos, negsuc}
 use lib.ListN.{length, take, drop}
 use Rattle.numbers.specs.Results.{value}
@@ -13,12 +14,13 @@ use Rattle.numbers.specs.Text.{same}
 use Rattle.numbers.specs.Numbers.{immOf, imm64Of}
 use Rattle.numbers.specs.Registers.{registerOf}
 use Rattle.encoder.specs.Run.{LoadsIn}
+use Rattle.layout.specs.declared.state.Section.the-variants as section
 use Rattle.layout.specs.declared.pseudo.Pseudo.the-variants.{Li, La}
 use Rattle.layout.specs.Bytes.{littleEndian}
 use Rattle.layout.specs.Pieces.{lines, linePieces}
 use Rattle.layout.specs.Limits.{baseLimit, textLimit, Lent, roomOf}
-use Rattle.layout.specs.Pseudos.{pseudoOperands, itemKind}
-use Rattle.layout.specs.State.{Equate, ItemLine, LabelWord, State, start}
+use Rattle.layout.specs.Pseudos.{pseudoOperands, reservedWords, itemKind}
+use Rattle.layout.specs.State.{Label, Equate, ItemLine, LabelWord, State, start}
 use Rattle.layout.specs.Stage.{lineStage}
 use Rattle.layout.specs.Addresses.{LabelAt, addressAt, labelAddress, fill}
 use Rattle.layout.specs.Rounds.{orElse, asNumber}
@@ -98,6 +100,11 @@ endsAt l (i ∷ below) = i .first
 abbrev pub itemWords : Layout → ItemAt → List ItemAt → List ℕ
 itemWords l i below = take (endsAt l below - i .first) (drop (i .first) (l .words))
 
+-- the index of the first word at a line or below it: of the first item there, or the words' end where there is none
+unfoldable pub wordFrom : ℕ → Layout → List ItemAt → ℕ
+wordFrom line l [] = length (l .words)
+wordFrom line l (i ∷ below) = elim (ltb (i .line) line) [ true ↦ wordFrom line l below | false ↦ i .first ]
+
 -- what an li's second operand says: "its written number" where `parse_imm` takes one, as it is written, and else "its name's value"
 abbrev pub liSays : Option ℤ → Option ℤ → Option ℤ → Option ℤ
 liSays (some z) written named = written
@@ -132,6 +139,10 @@ pub record ItemHolds (base : ℕ) (l : Layout) (x : ItemLine) (above : List Item
   pub line : i .line ≡ x .line
   pub kind : i .kind ≡ itemKind (x .item)
   pub source : i .source ≡ x .source
+  -- document 02, W-202: "Each item's address then equals the base plus four times its first word's index"
+  pub atWord : i .address ≡ base + 4 * i .first
+  -- and its words are as many as its kind and source say, which is what it reserves
+  pub sized : length (itemWords l i below) ≡ reservedWords (x .item) (x .source .bytes)
   -- "each li or la item's words, run in order by themselves whatever the registers hold, leave its written number, or its name's value or address,
   -- modulo 2^32 in its register, x0 excepted"
   pub li : x .item ≡ some Li → Loads (x .source .bytes) (itemWords l i below) (liValue l)
@@ -154,11 +165,19 @@ pub record Holds (base : ℕ) (σ : State) (l : Layout) : Type 0 where
   pub equates : OneByOne (EquateHolds base σ l) (σ .rest .equates) [] (l .equates)
   pub labelWords : (w : LabelWord) → Among w (σ .rest .own .stored .labelWords) → LabelWordHolds l w
   pub items : OneByOne (ItemHolds base l) (σ .rest .own .items .list) [] (l .items)
+  -- document 02, W-202: the words emitted are the words reserved
+  pub words : length (l .words) ≡ σ .rest .own .items .words
+  -- so no label of the text section is "four bytes off", nor is an equate's `.` there: each is the address of the first word at its line or below it, or
+  -- of the words' end
+  pub textLabels : (x : Label) → Among x (σ .labels) → x .place .section ≡ section.Text
+      → recordedAddress (l .labels) (x .name .bytes) ≡ some (base + 4 * wordFrom (x .line) l (l .items))
+  pub textDots : (e : Equate) → Among e (σ .rest .equates) → e .place .section ≡ section.Text
+      → addressAt base σ (e .place) ≡ base + 4 * wordFrom (e .line) l (l .items)
   -- "Its evaluations are the sum of the n equates' rounds, at most n(n+1)/2"
   pub evaluations : l .evaluations ≡ sumOfRounds (l .equates)
   pub few : 2 * l .evaluations ≤ length (l .equates) * suc (length (l .equates))
 
--- demand 3 of an answer to a call with this text, this base and so much lent
+-- demand 3, and W-202 of accepted layouts, of an answer to a call with this text, this base and so much lent
 pub record Demanded (t : List ℕ) (base : ℕ) (k : Lent) (a : Answer) : Type 0 where
   -- of an accepted layout, as the caller holds it
   pub accepted : a .number ≡ 0

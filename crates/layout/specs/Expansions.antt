@@ -1,14 +1,14 @@
 -- The nine pseudo-instructions as lists of instructions. Document 01's module pseudo.rs, refusals 18 to 20,
--- "count and register before label or number".
+-- "count and register before label or number"; document 02, W-202.
 use Prim.Native.Nat.{ℕ}
 use mathlib.Core.List.{List, [], _∷_, _++_}
-use mathlib.Core.Bool.{cond}
+use mathlib.Core.Bool.{Bool, cond}
 use mathlib.Core.Option.{Option, none, some}
 use lib.IntN.{ℤ, pos, negℤ}
 use Rattle.numbers.specs.declared.registers.Register.{Register}
 use Rattle.numbers.specs.Results.{Result, value, refused}
 use Rattle.numbers.specs.Text.{text, startsWith}
-use Rattle.numbers.specs.Ints.{isSigned12, isSigned32, bits}
+use Rattle.numbers.specs.Ints.{isSigned32, bits}
 use Rattle.numbers.specs.Numbers.{immOf}
 use Rattle.numbers.specs.Registers.{registerOf}
 use Rattle.encoder.specs.declared.instruction.Instruction.{Instruction}
@@ -17,6 +17,7 @@ use Rattle.encoder.specs.Table.{x0}
 use Rattle.encoder.specs.Split.{loadPair}
 use Rattle.layout.specs.declared.pseudo.Pseudo.{Pseudo}
 use Rattle.layout.specs.declared.pseudo.Pseudo.the-variants.{Li, La, Push, Pop, Print, PrintStr, Read, ReadByte, Random}
+use Rattle.layout.specs.Pseudos.{isSingle}
 
 -- the instructions, or a refusal's number
 abbrev pub Expanded : Type 0
@@ -70,7 +71,8 @@ abbrev pub noRegister : Option ℕ → Expanded → Expanded
 noRegister none e = e
 noRegister (some n) e = refused 18
 
--- "19 li operand": a number, or an equate that 32 signed bits hold; a text that begins with a quote is no name
+-- "19 li operand": a number, or an equate that 32 signed bits hold; a text that begins with a quote is no name. Document 02, W-202: "An equate beyond
+-- 32 signed bits is still 19"
 abbrev pub liConstant : Option ℤ → (ℤ → Expanded) → Expanded
 liConstant none f = refused 19
 liConstant (some z) f = cond (isSigned32 z) (f z) (refused 19)
@@ -79,8 +81,9 @@ abbrev pub onNumber : Option ℤ → List ℕ → (List ℕ → Option ℤ) → 
 onNumber (some z) b const f = f z
 onNumber none b const f = cond (startsWith (text "'") b) (refused 19) (liConstant (const b) f)
 
-abbrev pub liLoad : Register → ℤ → Expanded
-liLoad rd z = value (cond (isSigned12 z) (Addi rd x0 z ∷ []) (loadPair rd (bits 32 z)))
+-- a single addi, or the pair: of a name, whatever its value, "lui with the upper part, 0 included, then addi" (document 02, W-202)
+abbrev pub liLoad : Bool → Register → ℤ → Expanded
+liLoad single rd z = value (cond single (Addi rd x0 z ∷ []) (loadPair rd (bits 32 z)))
 
 -- the instructions of a register
 
@@ -123,7 +126,7 @@ labelAlone label ops f = oneOperand ops (λ a. noRegister (registerOf a) (onLabe
 
 -- what each pseudo stands for, of its operands; `const` gives an equate's value, `label` a label's address
 unfoldable pub expansion : (List ℕ → Option ℤ) → (List ℕ → Option ℕ) → Pseudo → List (List ℕ) → Expanded
-expansion const label Li ops = twoOperands ops (λ a b. onRegister (registerOf a) (λ rd. onNumber (immOf b) b const (liLoad rd)))
+expansion const label Li ops = twoOperands ops (λ a b. onRegister (registerOf a) (λ rd. onNumber (immOf b) b const (liLoad (isSingle (immOf b)) rd)))
 expansion const label La ops = twoOperands ops (λ a b. onRegister (registerOf a) (λ rd. onLabel (label b) (λ n. value (loadPair rd n))))
 expansion const label Push ops = registerAlone ops pushes
 expansion const label Pop ops = registerAlone ops pops

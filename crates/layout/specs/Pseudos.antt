@@ -1,5 +1,5 @@
 -- The nine pseudo-instructions and the four others, by every spelling that `assemble` lists, and the words that an item reserves.
--- Document 01, "Lines to places".
+-- Document 01, "Lines to places"; document 02, W-202.
 use Prim.Native.Nat.{ℕ}
 use mathlib.Core.List.{List, [], _∷_}
 use mathlib.Core.Bool.{Bool, true, false, cond, _||_, _&&_}
@@ -70,15 +70,17 @@ itemOf s = itemIn spellings s
 abbrev pub pseudoOperands : List ℕ → List (List ℕ)
 pseudoOperands s = itemOperands (oneSpaced (drop (countBefore isSpace s) s))
 
--- "li reserves one word if it has fewer than two operands or its second reads as -2048 to 2047, else two"
-abbrev pub liNumber : Option ℤ → ℕ
-liNumber none = 2
-liNumber (some z) = cond (isSigned12 z) 1 2
+-- is an li a single addi, by what its second operand reads as? Document 02, W-202: "Where li's second operand isn't a readable number, two words are
+-- emitted". What an li reserves (`liWords`) and what it emits (`liLoad`) both go by this
+abbrev pub isSingle : Option ℤ → Bool
+isSingle none = false
+isSingle (some z) = isSigned12 z
 
+-- "li reserves one word if it has fewer than two operands or its second reads as -2048 to 2047, else two"
 abbrev pub liWords : List (List ℕ) → ℕ
 liWords [] = 1
 liWords (a ∷ []) = 1
-liWords (a ∷ b ∷ bs) = liNumber (immOf b)
+liWords (a ∷ b ∷ bs) = cond (isSingle (immOf b)) 1 2
 
 -- "Words reserved: la, push, pop 2; print 3; print_str 11; read 6; read_byte 4; random 8"
 abbrev pub pseudoWords : Pseudo → List ℕ → ℕ

@@ -7,6 +7,7 @@ use crate::equates::constant;
 use crate::equates::spaced_constant;
 use crate::pieces::word_len;
 use crate::pseudo::Pseudo;
+use crate::pseudo::is_single;
 use crate::state::Count;
 use encoder::instruction::Instruction;
 use encoder::split::lower_part;
@@ -15,7 +16,6 @@ use numbers::imm::parse_imm_one_spaced;
 use numbers::ints::Imm;
 use numbers::ints::bits_of_i32;
 use numbers::ints::i32_of_bits;
-use numbers::ints::in_signed12;
 use numbers::ints::in_signed32;
 use numbers::operands::Operand;
 use numbers::operands::item_operand_at;
@@ -35,8 +35,7 @@ ghost use Rattle.numbers.specs.declared.registers.Register.{Register};
 ghost use Rattle.numbers.specs.Results.{value, refused};
 ghost use Rattle.numbers.specs.Text.{isSpace, oneSpaced};
 ghost use Rattle.numbers.specs.Registers.{registerOf};
-ghost use Rattle.numbers.specs.Numbers.{immOf};
-ghost use Rattle.numbers.specs.code.Meanings.{registerNumber};
+ghost use Rattle.numbers.specs.code.Meanings.{immValue, registerNumber};
 ghost use Rattle.encoder.specs.declared.instruction.Instruction.the-variants.{Addi, Lui, Lbu, Lw, Sw, Beq, Jal, Sub};
 ghost use Rattle.encoder.specs.Split.{loadPair};
 ghost use Rattle.layout.specs.declared.pseudo.Pseudo.the-variants as pseudo;
@@ -249,13 +248,20 @@ fn li_constant(text: &[u8], equates: &[u8], index: &[u16], count: usize, operand
     Imm::Invalid
 }
 
-// What an li loads: a number, or else an equate's value.
-fn li_number(text: &[u8], equates: &[u8], index: &[u16], count: usize, operand: &[u8]) -> Imm
+// What an li loads: the number that its operand reads as, or else an equate's value.
+fn li_number(
+    text: &[u8],
+    equates: &[u8],
+    index: &[u16],
+    count: usize,
+    operand: &[u8],
+    number: Imm,
+) -> Imm
     requires { ⌜ Some (EquateTable (now text) (now equates) (now index) count) ⌝ }
-    ensures { λ r. ⌜ WhereKnown text equates index count (λ ks. (f : ℤ → Expanded) → immThen r f
-        ≡ onNumber (immOf (oneSpaced (now (operand .entry)))) (oneSpaced (now (operand .entry))) (constant ks) f) ⌝ }
+    ensures { λ r. ⌜ WhereKnown text equates index count
+        (λ ks. (f : ℤ → Expanded) → immThen r f ≡ onNumber (immValue number) (oneSpaced (now (operand .entry))) (constant ks) f) ⌝ }
 {
-    match parse_imm_one_spaced(operand) {
+    match number {
         Imm::Value(v) => Imm::Value(v),
         Imm::Invalid => li_constant(text, equates, index, count, operand),
     }
@@ -343,11 +349,11 @@ fn load_word(rd: Register, b: u32) -> Expansion
     load_pair(ecalls(Count::Now(2)), 0, rd, b)
 }
 
-// A small number by an addi, another by the pair.
-fn load_number(rd: Register, v: i32) -> Expansion
-    ensures { λ r. ⌜ expandedOf r ≡ liLoad rd v ⌝ }
+// A number by a single addi from x0, or by the pair.
+fn load_number(single: bool, rd: Register, v: i32) -> Expansion
+    ensures { λ r. ⌜ expandedOf r ≡ liLoad single rd v ⌝ }
 {
-    if in_signed12(v) {
+    if single {
         return addi(ecalls(Count::Now(1)), 0, rd, Register::ZERO, v);
     }
     load_word(rd, bits_of_i32(v))
@@ -361,10 +367,12 @@ fn parse_li(text: &[u8], equates: &[u8], index: &[u16], count: usize, ops: &[u8]
     let Load::Into(rd, operand) = load_operands(ops) else {
         return refused(18);
     };
-    let Imm::Value(v) = li_number(text, equates, index, count, span_bytes(ops, operand)) else {
+    let second = span_bytes(ops, operand);
+    let number = parse_imm_one_spaced(second);
+    let Imm::Value(v) = li_number(text, equates, index, count, second, number) else {
         return refused(19);
     };
-    load_number(rd, v)
+    load_number(is_single(number), rd, v)
 }
 
 // la rd, label

@@ -14,8 +14,9 @@ use numbers::text::span_bytes;
 use numbers::text::text_before;
 ghost use mathlib.Core.Path.{_≡_};
 ghost use Prim.Native.Nat.{_≤_};
+ghost use Rattle.numbers.specs.code.Meanings.{immValue};
 ghost use Rattle.numbers.specs.code.Spans.{spanned};
-ghost use Rattle.layout.specs.Pseudos.{itemOf, pseudoOperands, liWords, pseudoWords, reservedWords, pseudoKind, itemKind};
+ghost use Rattle.layout.specs.Pseudos.{itemOf, pseudoOperands, isSingle, liWords, pseudoWords, reservedWords, pseudoKind, itemKind};
 ghost use Rattle.layout.specs.code.Kinds.{PseudoNames, beginsAsPseudo, textLineCode, kindItem, kindSource};
 
 // The nine pseudo-instructions, in the order of their item kinds 1 to 9.
@@ -148,7 +149,17 @@ pub fn kind_of(names: &Names, text: &[u8], source: Span) -> TextLine
     listed_kind(names, text, source)
 }
 
-// The words of an li: one if it has fewer than two operands or its number is small.
+// Is an li a single addi, by what its second operand reads as? Its size and its words both go by this.
+pub fn is_single(number: Imm) -> bool
+    ensures { λ r. ⌜ r ≡ isSingle (immValue number) ⌝ }
+{
+    match number {
+        Imm::Value(v) => in_signed12(v),
+        Imm::Invalid => false,
+    }
+}
+
+// The words of an li: one if it has fewer than two operands or is a single addi.
 pub fn li_word_count(s: &[u8]) -> usize
     ensures { λ r. ⌜ r ≡ liWords (pseudoOperands (now (s .entry))) ⌝ }
 {
@@ -157,13 +168,10 @@ pub fn li_word_count(s: &[u8]) -> usize
     let Operand::At(_, next) = item_operand_at(rest, 0) else {
         return 1;
     };
-    let Operand::At(number, _) = item_operand_at(rest, next) else {
+    let Operand::At(second, _) = item_operand_at(rest, next) else {
         return 1;
     };
-    let Imm::Value(v) = parse_imm_one_spaced(span_bytes(rest, number)) else {
-        return 2;
-    };
-    if in_signed12(v) {
+    if is_single(parse_imm_one_spaced(span_bytes(rest, second))) {
         return 1;
     }
     2

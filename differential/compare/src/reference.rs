@@ -4,10 +4,10 @@ use std::borrow::Cow;
 
 use differential::asking::{ask, Asked};
 use differential::falcon::asm::program::Program;
+use differential::items::{compared_words, items, Item};
 use differential::refusals::{number_of, LAST_OF_LINES};
-use differential::statements::{pseudo_words, statements};
 
-use crate::model::{Answer, Trace, EQUATE_SIZE, ITEM_SIZE, LABEL_SIZE};
+use crate::model::{field, Answer, Trace, EQUATE_SIZE, ITEM_SIZE, LABEL_SIZE};
 use crate::strings::with_bytes;
 
 /// What came of the comparison.
@@ -121,10 +121,21 @@ fn domain(
         },
         Asked::Panicked(_) => false,
     };
-    match (is_same, put.nops.or(strings)) {
+    let lis = lis_by_name(&put.answer, model);
+    match (is_same, put.nops.or(strings).or(lis)) {
         (false, _) => differs("other than the model's", &put.answer, &put.asked),
         (true, Some(reason)) => Held::Out(reason),
         (true, None) => Held::Same,
+    }
+}
+
+/// Why an answer that is the same otherwise has more words than the Rust's.
+fn lis_by_name(answer: &Asked, model: &Answer) -> Option<&'static str> {
+    match answer {
+        Asked::Laid(program) if program.text.len() < model.words.len() => Some(
+            "an li by name that is one word in the Rust (W-202); compared with the two in its place",
+        ),
+        _ => None,
     }
 }
 
@@ -198,11 +209,17 @@ pub fn show(text: &[u8], base: u32) -> String {
     };
     match ask(text, base) {
         Asked::Laid(program) => {
-            let laid = reference_laid(text, &program);
-            let words = laid.words.iter().map(|word| match word {
-                Some(word) => format!("{word:08X} "),
-                None => "- ".into(),
+            let Some(items) = items(text, &program) else {
+                return NO_ITEMS.into();
+            };
+            let words = items.iter().flat_map(|item| {
+                let shown = |word: &u32| match item.is_ordinary {
+                    true => "- ".into(),
+                    false => format!("{word:08X} "),
+                };
+                item.words.iter().map(shown)
             });
+            let laid = reference_laid(&items, &program);
             let bytes = laid.data.iter().map(|byte| format!("{byte:02X}"));
             let name = |bytes: &[u8]| String::from_utf8_lossy(bytes).into_owned();
             let labels = laid.labels.iter();
@@ -246,6 +263,9 @@ fn with_nops(text: &str, trace: &Trace) -> String {
 
 // ---------- an accepted source ----------
 
+/// Said where the reference's words cannot be parted into items.
+const NO_ITEMS: &str = "the reference accepts, and its words are not those of its items";
+
 /// In what an accepted source differs. The model's spans are of the text itself.
 fn laid_otherwise(
     text: &str,
@@ -255,7 +275,10 @@ fn laid_otherwise(
     model: &Answer,
     probe: bool,
 ) -> Option<String> {
-    let theirs = reference_laid(&put.asked, program);
+    let Some(items) = items(&put.asked, program) else {
+        return Some(NO_ITEMS.into());
+    };
+    let theirs = reference_laid(&items, program);
     if put.nops.is_some() {
         return difference_but_spans(&theirs, model);
     }
@@ -303,36 +326,12 @@ fn difference_but_spans(theirs: &Laid, model: &Answer) -> Option<String> {
     }
 }
 
-fn reference_laid(text: &str, program: &Program) -> Laid {
-    let statements = statements(text);
-    let mut lines: Vec<_> = program
-        .line_addrs
-        .iter()
-        .map(|(line, at)| (*line, *at))
-        .collect();
-    lines.sort();
-    let mut items = Vec::with_capacity(lines.len());
-    let mut words = Vec::with_capacity(program.text.len());
-    let mut left = program.text.as_slice();
-    let mut next = statements.iter();
-    for (line, address) in lines {
-        let found = next.find(|found| found.line == line);
-        let statement = found.expect("an item's statement").text.as_str();
-        items.push((line, address, statement.as_bytes().to_vec()));
-        let count = match pseudo_words(statement) {
-            None => {
-                words.push(None);
-                left = &left[1..];
-                continue;
-            }
-            // Of a li's words the first is a lui if there are two.
-            Some(0) => 1 + usize::from(left[0] & 0x7F == 0x37),
-            Some(count) => count,
-        };
-        words.extend(left[..count].iter().map(|word| Some(*word)));
-        left = &left[count..];
-    }
-    assert!(left.is_empty(), "a word without an item");
+/// The reference's layout, with the two words that an li by name has since W-202.
+fn reference_laid(items: &[Item], program: &Program) -> Laid {
+    let words = compared_words(items);
+    let statement = |item: &Item| item.statement.as_bytes().to_vec();
+    let items = items.iter();
+    let items = items.map(|item| (item.line, item.address, statement(item)));
     let mut labels: Vec<_> = program
         .labels
         .iter()
@@ -352,14 +351,8 @@ fn reference_laid(text: &str, program: &Program) -> Laid {
         data_base: program.data_base,
         bss_size: program.bss_size,
         labels,
-        items,
+        items: items.collect(),
     }
-}
-
-/// A record's field of four bytes.
-fn field(record: &[u8], number: usize) -> u32 {
-    let bytes = &record[4 * number..4 * number + 4];
-    u32::from_le_bytes(bytes.try_into().expect("four bytes"))
 }
 
 fn span(text: &[u8], record: &[u8], number: usize) -> Vec<u8> {
@@ -408,7 +401,7 @@ fn model_laid(text: &[u8], model: &Answer) -> Laid {
 
 // ---------- the equates' values ----------
 
-/// The word of `li a0, 0`.
+/// The word of `li a0, 0`, and the Rust's for an li of an equate that is 0.
 const LI_A0_0: u32 = 0x0000_0513;
 
 /// Asks the reference for each equate's value: behind what it was asked, the
@@ -459,4 +452,50 @@ fn equate_name<'a>(text: &'a str, record: &[u8]) -> Option<&'a str> {
         && !name.starts_with(|c: char| c.is_ascii_digit())
         && name != ".";
     is_term.then_some(name)
+}
+
+#[cfg(test)]
+mod tests {
+    use super::*;
+
+    fn words(text: &str) -> Vec<Option<u32>> {
+        let Asked::Laid(program) = ask(text, 0) else {
+            panic!("not accepted: {text}");
+        };
+        compared_words(&items(text, &program).expect("items"))
+    }
+
+    #[test]
+    fn lis_that_are_one_word_in_the_rust_alone() {
+        for (text, pair) in [
+            ("n = 5\nli a0, n", [0x00000537, 0x00550513]),
+            ("n = 5\nli x0 ,\tn,", [0x00000037, 0x00500013]),
+            ("n m = -1\nli t6, n\t m", [0x00000FB7, 0xFFFF8F93]),
+            (
+                "4294967296 = 7\nli a0, 4294967296",
+                [0x00000537, 0x00750513],
+            ),
+        ] {
+            let pair = pair.map(Some);
+            assert_eq!(words(text), pair, "{text}");
+            assert_eq!(
+                words(&format!("{text}\nx: ecall")),
+                [pair[0], pair[1], None]
+            );
+        }
+    }
+
+    #[test]
+    fn lis_that_stay_as_they_are() {
+        for (text, given) in [
+            ("n = 2048\nli a0, n", &[0x00001537, 0x80050513][..]),
+            ("5 = 9\nli a0, 5", &[0x00500513]),
+            ("li a0, 'a'", &[0x06100513]),
+            ("li a0, 2048", &[0x00001537, 0x80050513]),
+            ("push ra", &[0xFFC10113, 0x00112023]),
+        ] {
+            let given: Vec<_> = given.iter().copied().map(Some).collect();
+            assert_eq!(words(text), given, "{text}");
+        }
+    }
 }

@@ -34,18 +34,14 @@ impl Comparison {
 
     pub fn compare(&mut self, case: &Case, probe: bool) -> Outcome {
         let (model, trace) = model::assemble(&case.text, case.base, case.lent);
-        #[cfg(feature = "library")]
-        {
-            let given = self
-                .ours
-                .differs(&case.text, case.base, case.lent, case.counts, &model);
-            if let Some(difference) = given {
-                return Outcome {
-                    model,
-                    out: None,
-                    finding: Some(format!("ours: {difference}")),
-                };
-            }
+        let finding = self.ours_differs(case, &model);
+        let finding = finding.or_else(|| misplaced(case, &model));
+        if finding.is_some() {
+            return Outcome {
+                model,
+                out: None,
+                finding,
+            };
         }
         let (out, finding) = match hold(&case.text, case.base, &model, &trace, probe) {
             Held::Same => (None, None),
@@ -58,6 +54,26 @@ impl Comparison {
             finding,
         }
     }
+
+    #[cfg(feature = "library")]
+    fn ours_differs(&mut self, case: &Case, model: &Answer) -> Option<String> {
+        let difference = self
+            .ours
+            .differs(&case.text, case.base, case.lent, case.counts, model);
+        difference.map(|difference| format!("ours: {difference}"))
+    }
+
+    #[cfg(not(feature = "library"))]
+    fn ours_differs(&mut self, _: &Case, _: &Answer) -> Option<String> {
+        None
+    }
+}
+
+/// What W-202 says of every accepted layout, and the reference does not show: it
+/// has no index of an item's first word.
+fn misplaced(case: &Case, model: &Answer) -> Option<String> {
+    let item = model.misplaced(case.base)?;
+    Some(format!("model: item {item} is not where its first word is"))
 }
 
 impl Default for Comparison {

@@ -1,8 +1,10 @@
 //! The model against what the papers say outright: document 01's twelve cases,
 //! the smallest inputs of docs/DECISIONS.md, lines for each refusal from 2 to
-//! 20, and change request W-201's strings.
+//! 20, and change requests W-201 (strings) and W-202 (li by name).
 
-use compare::model::{assemble, Answer, Lent};
+use compare::generate::{Generator, Kind};
+use compare::model::{assemble, field, Answer, Lent, ITEM_SIZE};
+use compare::pool::pool;
 
 fn answer(text: &[u8], base: u32, lent: Lent) -> Answer {
     assemble(text, base, lent).0
@@ -120,11 +122,11 @@ fn decided_refusals() {
 fn decided_otherwise() {
     assert_eq!(data(".data\n.byte '''"), [39]);
     assert_eq!(data(".data\n.byte '\\'"), [92]);
-    assert_eq!(words(".equ n 5,6\nli a0, n 5"), [0x00600513]);
-    assert_eq!(words("a b = 1\nli a0, a  b"), [0x00100513]);
+    assert_eq!(words(".equ n 5,6\nli a0, n 5"), [0x00000537, 0x00650513]);
+    assert_eq!(words("a b = 1\nli a0, a  b"), [0x00000537, 0x00150513]);
     assert_eq!(
         words(".equ 99999999999, 5\nli a0, 99999999999"),
-        [0x00500513]
+        [0x00000537, 0x00550513]
     );
     assert_eq!(words("x: .data"), [0]);
     assert_eq!(words("push"), [0]);
@@ -142,10 +144,6 @@ fn decided_otherwise() {
         again.labels,
         [3, 0, 0, 0, 1, 0, 0, 0, 0, 0, 0, 0, 1, 0, 0, 0]
     );
-    // A small equate reserves two words and emits one.
-    let ahead = full("n = 5\nli a0, n\nx: nop");
-    assert_eq!(ahead.labels[8], 8);
-    assert_eq!(ahead.items[24 + 12], 1);
 }
 
 #[test]
@@ -403,4 +401,169 @@ fn what_is_lent_to_strings() {
             assert_eq!(given(line, 16, length - 1), 42, "{line}");
         }
     }
+}
+
+// ---------- W-202 ----------
+
+/// "Where li's second operand isn't a readable number, two words are emitted: lui
+/// with the upper part, 0 included, then addi."
+#[test]
+fn lis_by_name() {
+    for (value, pair) in [
+        ("5", [0x00000537, 0x00550513]),
+        ("0", [0x00000537, 0x00050513]),
+        ("1", [0x00000537, 0x00150513]),
+        ("-1", [0x00000537, 0xFFF50513]),
+        ("2047", [0x00000537, 0x7FF50513]),
+        ("2048", [0x00001537, 0x80050513]),
+        ("-2047", [0x00000537, 0x80150513]),
+        ("-2048", [0x00000537, 0x80050513]),
+        ("-2049", [0xFFFFF537, 0x7FF50513]),
+        ("4095", [0x00001537, 0xFFF50513]),
+        ("4096", [0x00001537, 0x00050513]),
+        ("-4096", [0xFFFFF537, 0x00050513]),
+        ("0x7FFFF7FF", [0x7FFFF537, 0x7FF50513]),
+        ("0x7FFFF800", [0x80000537, 0x80050513]),
+        ("2147483647", [0x80000537, 0xFFF50513]),
+        ("-2147483648", [0x80000537, 0x00050513]),
+    ] {
+        let text = format!("n = {value}\nli a0, n");
+        assert_eq!(words(&text), pair, "{text}");
+        let text = format!("li a0, n\n.equ n, m\nm = {value}");
+        assert_eq!(words(&text), pair, "{text}");
+    }
+    let zero = "n = 5\nli x0, n";
+    assert_eq!(words(zero), [0x00000037, 0x00500013]);
+    let last = "n = 5\nli t6, n";
+    assert_eq!(words(last), [0x00000FB7, 0x005F8F93]);
+}
+
+/// What is a name and what a number: `parse_imm` reads from -2^31 to 2^32 - 1,
+/// and character literals.
+#[test]
+fn names_that_look_like_numbers() {
+    let seven = [0x00000537, 0x00750513];
+    for name in [
+        "4294967296",
+        "-2147483649",
+        "0x100000000",
+        "99999999999999999999",
+        "- 5",
+        "0x",
+        "a b",
+    ] {
+        let text = format!("{name} = 7\nli a0, {name}");
+        assert_eq!(words(&text), seven, "{text}");
+        let text = format!("li a0, {name}\n.set {name}, 7");
+        assert_eq!(words(&text), seven, "{text}");
+    }
+    assert_eq!(words("a b = 7\nli a0, a\t\x0b b"), seven);
+    for (name, word) in [
+        ("5", 0x00500513),
+        ("-1", 0xFFF00513),
+        ("--5", 0x00500513),
+        ("0x5", 0x00500513),
+        ("4294967295", 0xFFF00513),
+        ("'a'", 0x06100513),
+    ] {
+        for value in ["9", "99999", "4294967296"] {
+            let text = format!("{name} = {value}\nli a0, {name}");
+            assert_eq!(words(&text), [word], "{text}");
+        }
+    }
+    assert_eq!(words("2048 = 9\nli a0, 2048"), [0x00001537, 0x80050513]);
+}
+
+/// "An equate beyond 32 signed bits is still 19", as are undefined names, labels,
+/// and what begins with a quote and is no literal.
+#[test]
+fn lis_that_stay_refused() {
+    for (text, line) in [
+        ("n = 2147483648\nli a0, n", 1),
+        ("n = 4294967295\nli a0, n", 1),
+        ("n = 4294967296\nli a0, n", 1),
+        ("n = -2147483649\nli a0, n", 1),
+        ("n = 9223372036854775807\nli a0, n", 1),
+        ("4294967296 = 2147483648\nli a0, 4294967296", 1),
+        ("li a0, n", 0),
+        ("li a0, 4294967296", 0),
+        ("li a0, -2147483649", 0),
+        ("n:\nli a0, n", 1),
+        ("a\tb = 5\nli a0, a\tb", 1),
+        (".equ ', 5\nli a0, '", 1),
+        (".equ 'ab', 5\nli a0, 'ab'", 1),
+    ] {
+        refused(text, 19, line);
+    }
+}
+
+/// First words, addresses and labels behind lis of each size.
+#[test]
+fn places_behind_lis() {
+    let text = "n = 5\na: li a0, n\nb: ecall\nc: li a1, 5\nd: li a2, n\ne: li a3, 2048\nf: push ra";
+    let given = answer(text.as_bytes(), 0x1000, Lent::FULL);
+    let items = given.items.chunks(ITEM_SIZE);
+    let places: Vec<_> = items.map(|item| (field(item, 0), field(item, 3))).collect();
+    let firsts = [0, 2, 3, 4, 6, 8];
+    assert_eq!(places, firsts.map(|first| (0x1000 + 4 * first, first)));
+    let labels = given.labels.chunks(16).map(|label| field(label, 2));
+    assert!(labels.eq(firsts.map(|first| 0x1000 + 4 * first)));
+    assert_eq!(given.counts.words, 10);
+    assert_eq!(given.words[2..5], [0, 0x00500593, 0x00000637]);
+}
+
+/// The words reserved are those emitted: 44 where one less is lent.
+#[test]
+fn what_is_lent_to_lis() {
+    let given = |text: &str, words: usize| {
+        let lent = Lent {
+            words,
+            ..Lent::FULL
+        };
+        let given = answer(text.as_bytes(), 0, lent);
+        (given.number, given.line, given.counts.words)
+    };
+    for (text, line, reserved) in [
+        ("n = 5\nli a0, n", 1, 2),
+        ("n = 5\nli a0, n\nx: li a1, n", 2, 4),
+        ("4294967296 = 7\nli a0, 4294967296", 1, 2),
+        ("5 = 9\nli a0, 5", 1, 1),
+    ] {
+        assert_eq!(given(text, reserved), (0, 0, reserved as u64), "{text}");
+        assert_eq!(given(text, reserved - 1), (44, line, 0), "{text}");
+    }
+    // 1,489 times eleven words and three are 16,382.
+    let most = format!(
+        "x:\nn=5\n{}print a0\nli a0,n\n",
+        "print_str x\n".repeat(1_489)
+    );
+    assert_eq!(given(&most, 20_000), (0, 0, 16_384));
+    assert_eq!(given(&format!("{most}li a0,5"), 20_000), (44, 1_493, 0));
+    let above = most.replace("print a0", "print a0\nli a0,5");
+    assert_eq!(given(&above, 20_000), (44, 1_493, 0));
+}
+
+/// "Each item's address then equals the base plus four times its first word's
+/// index in all accepted layouts."
+#[test]
+fn items_are_where_their_words_are() {
+    let generator = Generator::new(1, pool().expect("the sources to change"));
+    let mut items = 0;
+    for kind in Kind::ALL {
+        let count = match kind {
+            Kind::Many => 20,
+            Kind::Limits | Kind::Built => kind.total().unwrap_or(0),
+            _ => 5_000,
+        };
+        for index in 0..count {
+            let case = generator.case(kind, index);
+            let (given, _) = assemble(&case.text, case.base, case.lent);
+            assert_eq!(given.misplaced(case.base), None, "{} {index}", kind.name());
+            items += given.counts.items;
+        }
+    }
+    assert!(items > 50_000, "{items} items");
+    let mut moved = full("n = 5\nli a0, n\nx: nop");
+    moved.items[ITEM_SIZE + 12] = 1;
+    assert_eq!(moved.misplaced(0), Some(1));
 }

@@ -1,6 +1,8 @@
 //! That both contenders accept a source and answer the same of it: else they
-//! did not do the same work, and their times say nothing. Of a source for ours
-//! alone, that it is accepted.
+//! did not do the same work, and their times say nothing. For an li by name ours
+//! may have a word more (W-202). Of a source for ours alone, that it is accepted.
+
+use differential::items::{compared_words, items, Item};
 
 use crate::ours::{Answer, Buffers};
 use crate::reference::{assemble, Program};
@@ -10,8 +12,9 @@ pub fn agree(text: &str) -> Result<(), String> {
     let mut buffers = Buffers::new();
     let ours = taken(text, &mut buffers)?;
     let theirs = assemble(text).map_err(|error| format!("the reference refuses it: {error}"))?;
+    let their_items = items(text, &theirs).ok_or("the reference's words are not its items'")?;
     let parts = [
-        ("words", same_words(&ours, &buffers, &theirs)),
+        ("words", same_words(&ours, &buffers, &their_items)),
         (
             "data",
             zeros_after(&theirs.data, &buffers.data_bytes) && ours.data_bytes == theirs.data.len(),
@@ -22,7 +25,7 @@ pub fn agree(text: &str) -> Result<(), String> {
             "labels",
             our_labels(&ours, &buffers, text) == their_labels(&theirs),
         ),
-        ("items", our_items(&ours, &buffers) == their_items(&theirs)),
+        ("items", same_items(&ours, &buffers, &their_items)),
     ];
     match parts.iter().find(|part| !part.1) {
         Some((what, _)) => Err(format!("not the same {what}")),
@@ -53,32 +56,22 @@ fn zeros_after<T: PartialEq + Default>(expected: &[T], buffer: &[T]) -> bool {
 // ---- words and items
 
 /// Ours has a 0 for the word of an ordinary instruction line.
-fn same_words(ours: &Answer, buffers: &Buffers, theirs: &Program) -> bool {
-    let mut expected = theirs.text.clone();
-    for item in buffers.items(ours).filter(|item| item.kind == 0) {
-        match expected.get_mut(item.first_word) {
-            Some(word) => *word = 0,
-            None => return false,
-        }
-    }
+fn same_words(ours: &Answer, buffers: &Buffers, theirs: &[Item]) -> bool {
+    let words = compared_words(theirs).into_iter();
+    let expected: Vec<u32> = words.map(Option::unwrap_or_default).collect();
     ours.words == expected.len() && zeros_after(&expected, &buffers.words)
 }
 
-/// Line and address of each item; no line has two.
-fn our_items(ours: &Answer, buffers: &Buffers) -> Vec<(u32, u32)> {
-    buffers
-        .items(ours)
-        .map(|item| (item.line, item.address))
-        .collect()
-}
-
-fn their_items(theirs: &Program) -> Vec<(u32, u32)> {
-    let lines = theirs.line_addrs.iter();
-    let mut items: Vec<(u32, u32)> = lines
-        .map(|(&line, &address)| (line as u32, address))
-        .collect();
-    items.sort_unstable();
-    items
+/// Line and address of each item, and its first word's index: at base 0 the
+/// address is four times that. No line has two items.
+fn same_items(ours: &Answer, buffers: &Buffers, theirs: &[Item]) -> bool {
+    let ours: Vec<_> = buffers.items(ours).collect();
+    ours.len() == theirs.len()
+        && ours.iter().zip(theirs).all(|(ours, theirs)| {
+            ours.line as usize == theirs.line
+                && ours.address == theirs.address
+                && ours.address as usize == 4 * ours.first_word
+        })
 }
 
 // ---- labels

@@ -44,10 +44,10 @@ pub record LabelWordFits (t : List ℕ) (n : ℕ) (w : LabelWord) : Type 0 where
   pub place : w .at + 4 ≤ n
   pub line : w .line < length t
 
--- the words that items reserve together
-unfoldable pub reservedIn : List ItemLine → ℕ
-reservedIn [] = 0
-reservedIn (x ∷ xs) = reservedWords (x .item) (x .source .bytes) + reservedIn xs
+-- items one behind the other: their words from the nth on, and up to the mth
+abbrev pub Consecutive : ℕ → List ItemLine → ℕ → Type 0
+Consecutive n [] m = n ≡ m
+Consecutive n (x ∷ xs) m = (x .offset ≡ 4 * n) × Consecutive (n + reservedWords (x .item) (x .source .bytes)) xs m
 
 -- each part within its room
 pub record LabelsFit (t : List ℕ) (k : Room) (ls : List Label) : Type 0 where
@@ -61,7 +61,7 @@ pub record EquatesFit (t : List ℕ) (k : Room) (es : List Equate) : Type 0 wher
 -- the text's words are those that its items reserve
 pub record ItemsFit (t : List ℕ) (k : Room) (σ : Items) : Type 0 where
   pub room : σ .words ≤ k .words
-  pub sum : σ .words ≡ reservedIn (σ .list)
+  pub consecutive : Consecutive 0 (σ .list) (σ .words)
   pub few : length (σ .list) ≤ k .items
   pub each : Each (ItemFits t) (σ .list)
 

@@ -87,7 +87,6 @@ const FULL: &[&[u8]] = &[
     b".data\n.space 65537",
     b".bss\n.space 1048577",
     b".bss\n.byte 1",
-    b"n = 5\nli a0, n\nx: nop",
     // Strings.
     b".data\n.ascii \"12:40 #3;ok\\n\"",
     b".data\nx: .asciz \"12:40 #3;ok\\n\" # \"",
@@ -174,7 +173,6 @@ const FULL: &[&[u8]] = &[
     b"m = -9223372036854775807-1\na = -1-m",
     b"a = 9223372036854775807+1-1",
     b"x = a\na = b\na = u\nb = a",
-    b".equ 99999999999, 5\nli a0, 99999999999",
     b"a = 1+b\nb = c\nc = 1",
     b"a = b\na = c",
     b"a = .",
@@ -186,6 +184,38 @@ const FULL: &[&[u8]] = &[
     b"a = b\nb = c\nc = d\nd = a",
     b"z = 1\na = b\nb = a",
     b"a = u\nz = 1",
+    // Lis by name.
+    b"n = 5\nli a0, n",
+    b"n = 5\nli a0, n\nx: nop",
+    b"n = 5\nli a0, n\nx: ecall",
+    b"n = 5\nli a0, n\nx: li a1, n\ny: la a2, x",
+    b"n = 0\nli a0, n",
+    b"n = -1\nli a0,n",
+    b"n = 5\nli x0, n",
+    b"n = 2047\nli a0, n",
+    b"n = 2048\nli a0, n",
+    b"n = -2048\nli a0, n",
+    b"n = -2049\nli a0, n",
+    b"n = 4096\nli a0, n",
+    b"n = 0x7FFFF800\nli a0, n",
+    b"n = 2147483647\nli a0, n",
+    b"n = -2147483648\nli a0, n",
+    b"n = 2147483648\nli a0,n",
+    b"n = -2147483649\nli a0,n",
+    b"n = 4294967295\nli a0,n",
+    b"n = 9223372036854775807\nli a0, n",
+    b"li a0, n\nx: ecall\nn = 5",
+    b"li a0, n",
+    b"4294967296 = 7\nli a0, 4294967296",
+    b"4294967296 = 7\nli a0, 4294967296\nx: ecall",
+    b"-2147483649 = 3\nli a0, -2147483649",
+    b".equ 99999999999, 5\nli a0, 99999999999",
+    b"4294967295 = 7\nli a0, 4294967295",
+    b"5 = 9\nli a0, 5",
+    b"5 = 9\nli a0, 5\nx: ecall",
+    b"2048 = 9\nli a0, 2048",
+    b"'a' = 9\nli a0, 'a'",
+    b"a b = 5\nli a0, a\tb\nx: ecall",
     // Pseudos.
     b"li z, u",
     b"li a0",
@@ -469,6 +499,31 @@ const OTHERS: &[(&[u8], u32, Lent)] = &[
             ..Lent::FULL
         },
     ),
+    (
+        b"4294967296 = 7\nli a0, 4294967296",
+        0,
+        Lent {
+            words: 1,
+            ..Lent::FULL
+        },
+    ),
+    (
+        b"5 = 9\nli a0, 5",
+        0,
+        Lent {
+            words: 1,
+            ..Lent::FULL
+        },
+    ),
+    (
+        b"n=5\nli a0, n\nx: ecall",
+        0,
+        Lent {
+            words: 2,
+            ..Lent::FULL
+        },
+    ),
+    (b"n=5\nli a0, n\nx: ecall", 0xFF00_0000, Lent::FULL),
     (b"la a0, x\nx:", 0x7FFF_F7F8, Lent::FULL),
     (b"la a0, x\nx:", 0x7FFF_F7F7, Lent::FULL),
     (b"la a0, x\nx:", 0x7FFF_FFF7, Lent::FULL),

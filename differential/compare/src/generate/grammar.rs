@@ -3,7 +3,7 @@
 use differential::random::Random;
 
 use super::parts::{Writer, NAMES};
-use super::rounds;
+use super::{named, rounds};
 
 #[derive(Clone, Copy, PartialEq)]
 pub enum Topic {
@@ -37,6 +37,9 @@ pub fn text(random: &mut Random, topic: Topic) -> Vec<u8> {
     };
     if topic == Topic::Equates && writer.one_in(2) {
         return rounds::text(writer);
+    }
+    if topic == Topic::Pseudos && writer.one_in(8) {
+        return named::text(writer);
     }
     let mut section = Section::Text;
     if topic == Topic::Data {
@@ -105,6 +108,7 @@ impl Writer<'_> {
                 12..=27 => return self.label_line(*section),
                 28..=35 => self.ignored(),
                 36..=47 => self.equate(),
+                48..=50 => return self.text_of_named_lis(section),
                 _ => self.own(*section),
             },
             Topic::Equates => match choice {
@@ -112,6 +116,7 @@ impl Writer<'_> {
                 4..=13 => return self.label_line(*section),
                 14..=21 => self.own(*section),
                 22..=27 => self.li_of_name(*section),
+                28..=31 => return self.text_of_named_lis(section),
                 _ => self.equate(),
             },
             Topic::Data => match choice {
@@ -124,6 +129,7 @@ impl Writer<'_> {
                 0..=3 => return self.section_line(section),
                 4..=19 => return self.label_line(*section),
                 20..=29 => self.equate(),
+                30..=35 => return self.text_of_named_lis(section),
                 _ => self.own(*section),
             },
         }
@@ -295,6 +301,14 @@ impl Writer<'_> {
     }
 
     // ---------- the text section ----------
+
+    fn text_of_named_lis(&mut self, section: &mut Section) {
+        if *section != Section::Text {
+            self.put(".text\n");
+            *section = Section::Text;
+        }
+        self.named_lis();
+    }
 
     fn li_of_name(&mut self, section: Section) {
         if section == Section::Text {

@@ -280,7 +280,16 @@ fn words(cases: &mut Cases) {
     ] {
         cases.full(format!("x:\n{}{tail}z:\n", "random a0\n".repeat(count)));
     }
-    // li by an equate reserves two words and emits one.
+    // An li by name takes two words, whatever the value: one that is left is not
+    // enough.
+    for (value, tail) in [
+        ("5", "li a0,n\nli a0,n\n"),
+        ("5", "print a0\nli a0,n\n"),
+        ("99999", "print a0\nli a0,n\n"),
+        ("5", "print a0\nli a0,5\nli a0,n\n"),
+    ] {
+        cases.full(format!("x:\nn={value}\n{}{tail}z:\n", strings(1_489)));
+    }
     cases.full(format!("n=5\n{}z:\n", "li a0,n\n".repeat(2_048)));
     cases.full(format!("{}z:\n", "li a0,99999\n".repeat(2_048)));
 }

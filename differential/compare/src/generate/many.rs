@@ -63,8 +63,11 @@ pub fn text(random: &mut Random) -> Vec<u8> {
                     continue;
                 }
                 let label = &labels[random.below(labels.len())];
-                let line = match random.below(3) {
+                let line = match random.below(4) {
                     0 => format!(".data\n.word {label},{label}\n"),
+                    1 if !equates.is_empty() => {
+                        format!(".text\nli a0,{}\n", equates[random.below(equates.len())])
+                    }
                     _ => format!(".text\nla a0,{label}\n"),
                 };
                 text.push_str(&line);

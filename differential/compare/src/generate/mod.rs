@@ -6,6 +6,7 @@ pub mod hostile;
 pub mod limits;
 pub mod many;
 pub mod mutate;
+mod named;
 pub mod parts;
 pub mod rounds;
 pub mod settings;
@@ -146,6 +147,7 @@ impl Generator {
         let lent = match kind {
             Kind::Many => settings::long(&mut random),
             Kind::Strings => strings::lent(&mut random, &text, base),
+            Kind::Pseudos => settings::lent_words(&mut random, &text, base),
             _ => settings::lent(&mut random),
         };
         let counts = settings::counts(&mut random);
@@ -158,12 +160,34 @@ impl Generator {
     }
 }
 
-/// One generator a source, so that each can be made again by itself.
+/// One generator a source, so that each can be made again by itself. The seed is
+/// mixed before the number meets it: else another seed would make the same
+/// sources in another order.
 fn random_of(seed: u64, kind: Kind, index: u64) -> Random {
-    let mut mixed = seed ^ (kind as u64) << 56 ^ index;
+    Random::new(mixed(mixed(seed) ^ (kind as u64) << 56 ^ index) | 1)
+}
+
+fn mixed(number: u64) -> u64 {
+    let mut mixed = number;
     for factor in [0xBF58_476D_1CE4_E5B9, 0x94D0_49BB_1331_11EB] {
         mixed = mixed.wrapping_add(0x9E37_79B9_7F4A_7C15);
         mixed = (mixed ^ mixed >> 30).wrapping_mul(factor);
     }
-    Random::new((mixed ^ mixed >> 31) | 1)
+    mixed ^ mixed >> 31
+}
+
+#[cfg(test)]
+mod tests {
+    use std::collections::HashSet;
+
+    use super::*;
+
+    #[test]
+    fn another_seed_makes_other_sources() {
+        let first = |seed| -> HashSet<u64> {
+            let numbers = (0..10_000).map(|index| random_of(seed, Kind::Lines, index).next());
+            numbers.collect()
+        };
+        assert!(first(1).is_disjoint(&first(2)));
+    }
 }

@@ -2,7 +2,7 @@
 
 use differential::random::Random;
 
-use crate::model::{Lent, EQUATE_SIZE, ITEM_SIZE, LABEL_SIZE};
+use crate::model::{self, Lent, EQUATE_SIZE, ITEM_SIZE, LABEL_SIZE};
 
 /// Bases near which an address has an edge: those of la, of base + 0x1000 and
 /// of refusal 40.
@@ -61,6 +61,22 @@ pub fn lent(random: &mut Random) -> Lent {
             items: random.below(6 * ITEM_SIZE),
         },
         6..=13 => one_short(random),
+        _ => AMPLE,
+    }
+}
+
+/// For one in eight just the words that an accepted text takes, one less or one
+/// more.
+pub fn lent_words(random: &mut Random, text: &[u8], base: u32) -> Lent {
+    if random.below(8) != 0 {
+        return lent(random);
+    }
+    let answer = model::assemble(text, base, Lent::FULL).0;
+    match answer.number {
+        0 => Lent {
+            words: (answer.words.len() + 1).saturating_sub(random.below(3)),
+            ..AMPLE
+        },
         _ => AMPLE,
     }
 }

@@ -10,7 +10,7 @@ pub struct Topic {
     pub longest: u32,
 }
 
-pub const TOPICS: [Topic; 23] = [
+pub const TOPICS: [Topic; 25] = [
     Topic {
         name: "equates by the byte",
         before: "",
@@ -206,6 +206,30 @@ pub const TOPICS: [Topic; 23] = [
         ],
         after: "\ny:",
         longest: 5,
+    },
+    Topic {
+        name: "values of lis by name",
+        before: "n=",
+        pieces: &["+", "-", "1", "2048", "4096", "2147483648", "n"],
+        after: "\nli a0, n\nx: la a1, x",
+        longest: 6,
+    },
+    Topic {
+        name: "lis by name",
+        before: "",
+        pieces: &[
+            "n=5\n",
+            "n=-2049\n",
+            "4294967296=7\n",
+            "5=9\n",
+            "li a0,n\n",
+            "li x0,4294967296\n",
+            "li a1,5\n",
+            "x: ecall\n",
+            "n:\n",
+        ],
+        after: "y: la a2,y",
+        longest: 6,
     },
     Topic {
         name: "section names",

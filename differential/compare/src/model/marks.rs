@@ -169,6 +169,7 @@ marks! {
     LiFewOperands,
     LiReservesOne,
     LiReservesTwo,
+    LiNameReservesTwo,
     OperandsFew,
     OperandsMany,
     RegisterForLabel,
@@ -184,15 +185,14 @@ marks! {
     LabelNotFound,
     LaEdge,
     LaUpper,
-    LiLiteralBad,
     LiLiteral,
-    LiNumber,
+    LiNumberOne,
+    LiNumberTwo,
+    LiNameUpperZero,
+    LiNameUpper,
+    LiLiteralBad,
     LiUnknown,
     LiEquateBeyond,
-    LiEquateSmall,
-    LiEquate,
-    LiOne,
-    LiTwo,
 }
 
 const WORDS: usize = 4;

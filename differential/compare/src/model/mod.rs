@@ -1,5 +1,5 @@
 //! A second model of the whole call, written from document 01, with document
-//! 02's change request W-201 (strings).
+//! 02's change requests W-201 (strings) and W-202 (li by name).
 //!
 //! It shares no line with the reference and none with the proved code. Where
 //! the paper leaves a point open, docs/DECISIONS.md says how it was decided.
@@ -79,6 +79,18 @@ pub struct Answer {
     pub labels: Vec<u8>,
     pub equates: Vec<u8>,
     pub items: Vec<u8>,
+}
+
+impl Answer {
+    /// The first item that is not where W-202 says: at the base plus four times
+    /// its first word's index.
+    pub fn misplaced(&self, base: u32) -> Option<usize> {
+        let is_misplaced = |item: &[u8]| {
+            let (address, first) = (u64::from(field(item, 0)), u64::from(field(item, 3)));
+            address != u64::from(base) + 4 * first
+        };
+        self.items.chunks(ITEM_SIZE).position(is_misplaced)
+    }
 }
 
 /// What the answer does not say, but who holds it to the reference asks.
@@ -223,4 +235,10 @@ fn put(record: &mut Vec<u8>, fields: &[usize]) {
         let field = u32::try_from(*field).expect("a field of four bytes");
         record.extend_from_slice(&field.to_le_bytes());
     }
+}
+
+/// A record's field of four bytes.
+pub fn field(record: &[u8], number: usize) -> u32 {
+    let bytes = &record[4 * number..4 * number + 4];
+    u32::from_le_bytes(bytes.try_into().expect("four bytes"))
 }

@@ -5,7 +5,7 @@ use std::collections::HashMap;
 
 use super::lines::Item;
 use super::marks::mark;
-use super::text::{character, imm, one_spaced, operands, register};
+use super::text::{imm, one_spaced, operands, register};
 use super::Refusal;
 
 pub enum Kind {
@@ -86,16 +86,7 @@ pub fn reserved_words(kind: usize, statement: &[u8]) -> u64 {
                 mark!(LiFewOperands);
                 1
             }
-            Some(operand) => match imm(operand) {
-                Some(-2048..=2047) => {
-                    mark!(LiReservesOne);
-                    1
-                }
-                _ => {
-                    mark!(LiReservesTwo);
-                    2
-                }
-            },
+            Some(operand) => Load::of(operand).words(),
         },
         LA | PUSH | POP => 2,
         PRINT => 3,
@@ -103,6 +94,44 @@ pub fn reserved_words(kind: usize, statement: &[u8]) -> u64 {
         READ => 6,
         READ_BYTE => 4,
         _ => 8,
+    }
+}
+
+/// What an li loads, by its second operand alone. The words it reserves and the
+/// words it becomes both follow from this.
+enum Load<'a> {
+    /// A readable number from -2048 to 2047: addi.
+    Short(i32),
+    /// Another readable number: lui and addi.
+    Long(i32),
+    /// No readable number. W-202: lui with the upper part, 0 included, then addi.
+    Name(&'a [u8]),
+}
+
+impl<'a> Load<'a> {
+    fn of(operand: &'a [u8]) -> Self {
+        match imm(operand) {
+            Some(value @ -2048..=2047) => Load::Short(value),
+            Some(value) => Load::Long(value),
+            None => Load::Name(operand),
+        }
+    }
+
+    fn words(&self) -> u64 {
+        match self {
+            Load::Short(_) => {
+                mark!(LiReservesOne);
+                1
+            }
+            Load::Long(_) => {
+                mark!(LiReservesTwo);
+                2
+            }
+            Load::Name(_) => {
+                mark!(LiNameReservesTwo);
+                2
+            }
+        }
     }
 }
 
@@ -281,40 +310,44 @@ fn find(name: &[u8], labels: &HashMap<&[u8], u32>, edge: &mut bool) -> Result<u3
 }
 
 fn li(rd: u32, operand: &[u8], values: &HashMap<&[u8], i64>) -> Result<Vec<u32>, u8> {
-    let value = if operand[0] == b'\'' {
-        let Some(code) = character(operand) else {
-            mark!(LiLiteralBad);
-            return Err(19);
-        };
-        mark!(LiLiteral);
-        code as i32
-    } else if let Some(value) = imm(operand) {
-        mark!(LiNumber);
-        value
-    } else {
-        let Some(value) = values.get(operand) else {
-            mark!(LiUnknown);
-            return Err(19);
-        };
-        let Ok(value) = i32::try_from(*value) else {
-            mark!(LiEquateBeyond);
-            return Err(19);
-        };
-        match value {
-            -2048..=2047 => mark!(LiEquateSmall),
-            _ => mark!(LiEquate),
-        }
-        value
-    };
-    Ok(match value {
-        -2048..=2047 => {
-            mark!(LiOne);
+    Ok(match Load::of(operand) {
+        Load::Short(value) => {
+            match operand[0] {
+                b'\'' => mark!(LiLiteral),
+                _ => mark!(LiNumberOne),
+            }
             vec![addi(rd, X0, value)]
         }
-        _ => {
-            mark!(LiTwo);
+        Load::Long(value) => {
+            mark!(LiNumberTwo);
             pair(rd, value as u32).to_vec()
         }
+        Load::Name(name) => {
+            let value = equate(name, values)?;
+            match value {
+                -2048..=2047 => mark!(LiNameUpperZero),
+                _ => mark!(LiNameUpper),
+            }
+            pair(rd, value as u32).to_vec()
+        }
+    })
+}
+
+/// The value that an li takes by an equate's name: of 32 signed bits.
+fn equate(name: &[u8], values: &HashMap<&[u8], i64>) -> Result<i32, u8> {
+    // What begins with a quote is a malformed literal, also where an equate has
+    // that name.
+    if name[0] == b'\'' {
+        mark!(LiLiteralBad);
+        return Err(19);
+    }
+    let Some(value) = values.get(name) else {
+        mark!(LiUnknown);
+        return Err(19);
+    };
+    i32::try_from(*value).map_err(|_| {
+        mark!(LiEquateBeyond);
+        19
     })
 }
 
