@@ -1,4 +1,6 @@
 pub mod Immediates
 pub mod Fields
+pub mod Shifts
 pub mod Load
 pub mod WordCases
+pub mod SplitRefuted

@@ -61,6 +61,7 @@ const KINDS: &[Kind] = &[
     ("pseudo-space", "pseudo-instructions with long white space", Goal::Worst, pseudo_space),
     ("random", "2,048 `random`, of eight words each", Goal::Worst, random),
     ("print-str", "1,489 `print_str`, of eleven words each", Goal::Worst, print_str),
+    ("li", "2,048 `li` of numbers of 32 bits", Goal::Worst, li_of_numbers),
     ("la", "1,024 labels, 2,048 `la` of them", Goal::Worst, la_of_labels),
     ("la-spaced", "1,024 labels with a space, 2,048 `la` of the last by a tab", Goal::Worst, la_spaced),
     ("la-spaced-long", "`la` of a label of 1,200 bytes with a space, by a tab", Goal::Worst, la_spaced_long),
@@ -247,6 +248,13 @@ fn random() -> String {
 
 fn print_str() -> String {
     "message:\n".to_string() + &counted(WORD_LIMIT / 11, |_| "    print_str message\n".to_string())
+}
+
+/// Numbers beyond 12 bits, with lower parts of either sign.
+fn li_of_numbers() -> String {
+    counted(ITEM_LIMIT, |k| {
+        format!("    li a0, {}\n", 4096 + k * 2_096_127)
+    })
 }
 
 fn la_of_labels() -> String {
