@@ -34,9 +34,12 @@ pub rounding-left-out : (unrounded 2048 ≡ upperPart 2048 → ⊥)
     × (run (0x00000537 ∷ 0x80050513 ∷ []) (replicate 32 0) ≡ loaded (2 ^ 32 - 2048))
 rounding-left-out = ((λ e. omega arith), refl, refl)
 
--- rounded, then shifted to the right by r and to the left by l
+-- rounded, then shifted to the right by r and to the left by l: by 12 that is the upper part
 abbrev upperBy : ℕ → ℕ → ℕ → ℕ
 upperBy r l b = (b + 2048) % 2 ^ 32 / 2 ^ r * 2 ^ l % 2 ^ 32
+
+pub upper-by-twelve : (b : ℕ) → upperBy 12 12 b ≡ upperPart b
+upper-by-twelve b = omega arith
 
 -- by 11: what is added to round remains, and lui does not take it
 pub shift-by-eleven : (upperBy 11 11 0 ≡ upperPart 0 → ⊥)
