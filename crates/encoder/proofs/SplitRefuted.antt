@@ -4,7 +4,6 @@ use mathlib.Core.Path.{_≡_, refl}
 use mathlib.Core.List.{List, [], _∷_, map}
 use native.Mathlib.Omega.{arith}
 use lib.ListN.{set, replicate}
-use Rattle.numbers.specs.declared.registers.Register.{Register}
 use Rattle.numbers.specs.Results.{value, refused}
 use Rattle.numbers.specs.Ints.{signedOf}
 use Rattle.encoder.specs.declared.instruction.Instruction.{Instruction}
@@ -14,8 +13,8 @@ use Rattle.encoder.specs.Run.{Ran, done, run}
 use Rattle.encoder.specs.Split.{upperPart, lowerPart}
 use Rattle.encoder.proofs.Shifts.{lowerBy}
 
-abbrev a0 : Register
-a0 = record { 0 = 10 }
+abbrev a0 : ℕ
+a0 = 10
 
 -- the pair of these parts
 abbrev pairOf : ℕ → ℕ → List Instruction

@@ -1,231 +1,54 @@
 // The RV32IM instructions, and the format that each is laid out in.
-use numbers::registers::Register;
 ghost use mathlib.Core.Path.{_≡_};
 ghost use Rattle.encoder.specs.Table.{formOf};
 
+// A register is its number, as in the Rust: one above 31 can be passed, and `encode` refuses it (22).
 pub enum Instruction {
-    Add {
-        rd: Register,
-        rs1: Register,
-        rs2: Register,
-    },
-    Sub {
-        rd: Register,
-        rs1: Register,
-        rs2: Register,
-    },
-    And {
-        rd: Register,
-        rs1: Register,
-        rs2: Register,
-    },
-    Or {
-        rd: Register,
-        rs1: Register,
-        rs2: Register,
-    },
-    Xor {
-        rd: Register,
-        rs1: Register,
-        rs2: Register,
-    },
-    Sll {
-        rd: Register,
-        rs1: Register,
-        rs2: Register,
-    },
-    Srl {
-        rd: Register,
-        rs1: Register,
-        rs2: Register,
-    },
-    Sra {
-        rd: Register,
-        rs1: Register,
-        rs2: Register,
-    },
-    Slt {
-        rd: Register,
-        rs1: Register,
-        rs2: Register,
-    },
-    Sltu {
-        rd: Register,
-        rs1: Register,
-        rs2: Register,
-    },
-    Mul {
-        rd: Register,
-        rs1: Register,
-        rs2: Register,
-    },
-    Mulh {
-        rd: Register,
-        rs1: Register,
-        rs2: Register,
-    },
-    Mulhsu {
-        rd: Register,
-        rs1: Register,
-        rs2: Register,
-    },
-    Mulhu {
-        rd: Register,
-        rs1: Register,
-        rs2: Register,
-    },
-    Div {
-        rd: Register,
-        rs1: Register,
-        rs2: Register,
-    },
-    Divu {
-        rd: Register,
-        rs1: Register,
-        rs2: Register,
-    },
-    Rem {
-        rd: Register,
-        rs1: Register,
-        rs2: Register,
-    },
-    Remu {
-        rd: Register,
-        rs1: Register,
-        rs2: Register,
-    },
-    Addi {
-        rd: Register,
-        rs1: Register,
-        imm: i32,
-    },
-    Andi {
-        rd: Register,
-        rs1: Register,
-        imm: i32,
-    },
-    Ori {
-        rd: Register,
-        rs1: Register,
-        imm: i32,
-    },
-    Xori {
-        rd: Register,
-        rs1: Register,
-        imm: i32,
-    },
-    Slti {
-        rd: Register,
-        rs1: Register,
-        imm: i32,
-    },
-    Sltiu {
-        rd: Register,
-        rs1: Register,
-        imm: i32,
-    },
-    Slli {
-        rd: Register,
-        rs1: Register,
-        shamt: u8,
-    },
-    Srli {
-        rd: Register,
-        rs1: Register,
-        shamt: u8,
-    },
-    Srai {
-        rd: Register,
-        rs1: Register,
-        shamt: u8,
-    },
-    Lb {
-        rd: Register,
-        rs1: Register,
-        imm: i32,
-    },
-    Lh {
-        rd: Register,
-        rs1: Register,
-        imm: i32,
-    },
-    Lw {
-        rd: Register,
-        rs1: Register,
-        imm: i32,
-    },
-    Lbu {
-        rd: Register,
-        rs1: Register,
-        imm: i32,
-    },
-    Lhu {
-        rd: Register,
-        rs1: Register,
-        imm: i32,
-    },
-    Jalr {
-        rd: Register,
-        rs1: Register,
-        imm: i32,
-    },
-    Sb {
-        rs2: Register,
-        rs1: Register,
-        imm: i32,
-    },
-    Sh {
-        rs2: Register,
-        rs1: Register,
-        imm: i32,
-    },
-    Sw {
-        rs2: Register,
-        rs1: Register,
-        imm: i32,
-    },
-    Beq {
-        rs1: Register,
-        rs2: Register,
-        imm: i32,
-    },
-    Bne {
-        rs1: Register,
-        rs2: Register,
-        imm: i32,
-    },
-    Blt {
-        rs1: Register,
-        rs2: Register,
-        imm: i32,
-    },
-    Bge {
-        rs1: Register,
-        rs2: Register,
-        imm: i32,
-    },
-    Bltu {
-        rs1: Register,
-        rs2: Register,
-        imm: i32,
-    },
-    Bgeu {
-        rs1: Register,
-        rs2: Register,
-        imm: i32,
-    },
-    Lui {
-        rd: Register,
-        imm: i32,
-    },
-    Auipc {
-        rd: Register,
-        imm: i32,
-    },
-    Jal {
-        rd: Register,
-        imm: i32,
-    },
+    Add { rd: u8, rs1: u8, rs2: u8 },
+    Sub { rd: u8, rs1: u8, rs2: u8 },
+    And { rd: u8, rs1: u8, rs2: u8 },
+    Or { rd: u8, rs1: u8, rs2: u8 },
+    Xor { rd: u8, rs1: u8, rs2: u8 },
+    Sll { rd: u8, rs1: u8, rs2: u8 },
+    Srl { rd: u8, rs1: u8, rs2: u8 },
+    Sra { rd: u8, rs1: u8, rs2: u8 },
+    Slt { rd: u8, rs1: u8, rs2: u8 },
+    Sltu { rd: u8, rs1: u8, rs2: u8 },
+    Mul { rd: u8, rs1: u8, rs2: u8 },
+    Mulh { rd: u8, rs1: u8, rs2: u8 },
+    Mulhsu { rd: u8, rs1: u8, rs2: u8 },
+    Mulhu { rd: u8, rs1: u8, rs2: u8 },
+    Div { rd: u8, rs1: u8, rs2: u8 },
+    Divu { rd: u8, rs1: u8, rs2: u8 },
+    Rem { rd: u8, rs1: u8, rs2: u8 },
+    Remu { rd: u8, rs1: u8, rs2: u8 },
+    Addi { rd: u8, rs1: u8, imm: i32 },
+    Andi { rd: u8, rs1: u8, imm: i32 },
+    Ori { rd: u8, rs1: u8, imm: i32 },
+    Xori { rd: u8, rs1: u8, imm: i32 },
+    Slti { rd: u8, rs1: u8, imm: i32 },
+    Sltiu { rd: u8, rs1: u8, imm: i32 },
+    Slli { rd: u8, rs1: u8, shamt: u8 },
+    Srli { rd: u8, rs1: u8, shamt: u8 },
+    Srai { rd: u8, rs1: u8, shamt: u8 },
+    Lb { rd: u8, rs1: u8, imm: i32 },
+    Lh { rd: u8, rs1: u8, imm: i32 },
+    Lw { rd: u8, rs1: u8, imm: i32 },
+    Lbu { rd: u8, rs1: u8, imm: i32 },
+    Lhu { rd: u8, rs1: u8, imm: i32 },
+    Jalr { rd: u8, rs1: u8, imm: i32 },
+    Sb { rs2: u8, rs1: u8, imm: i32 },
+    Sh { rs2: u8, rs1: u8, imm: i32 },
+    Sw { rs2: u8, rs1: u8, imm: i32 },
+    Beq { rs1: u8, rs2: u8, imm: i32 },
+    Bne { rs1: u8, rs2: u8, imm: i32 },
+    Blt { rs1: u8, rs2: u8, imm: i32 },
+    Bge { rs1: u8, rs2: u8, imm: i32 },
+    Bltu { rs1: u8, rs2: u8, imm: i32 },
+    Bgeu { rs1: u8, rs2: u8, imm: i32 },
+    Lui { rd: u8, imm: i32 },
+    Auipc { rd: u8, imm: i32 },
+    Jal { rd: u8, imm: i32 },
     Ecall,
     Ebreak,
 }
@@ -234,19 +57,19 @@ pub enum Instruction {
 // A shift is format I with funct7 and the shift in its number's place; they stand where R has funct7 and rs2.
 pub enum Form {
     // opcode, funct3, funct7, rd, rs1, rs2
-    R(u8, u8, u8, Register, Register, Register),
+    R(u8, u8, u8, u8, u8, u8),
     // opcode, funct3, rd, rs1, imm
-    I(u8, u8, Register, Register, i32),
+    I(u8, u8, u8, u8, i32),
     // opcode, funct3, funct7, rd, rs1, shamt
-    Shift(u8, u8, u8, Register, Register, u8),
+    Shift(u8, u8, u8, u8, u8, u8),
     // opcode, funct3, rs1, rs2, imm
-    S(u8, u8, Register, Register, i32),
+    S(u8, u8, u8, u8, i32),
     // opcode, funct3, rs1, rs2, imm
-    B(u8, u8, Register, Register, i32),
+    B(u8, u8, u8, u8, i32),
     // opcode, rd, imm
-    U(u8, Register, i32),
+    U(u8, u8, i32),
     // opcode, rd, imm
-    J(u8, Register, i32),
+    J(u8, u8, i32),
 }
 
 // The major opcodes, as the manual names them.
@@ -341,7 +164,7 @@ pub fn form_of(i: Instruction) -> Form
         Instruction::Lui { rd, imm } => Form::U(LUI, rd, imm),
         Instruction::Auipc { rd, imm } => Form::U(AUIPC, rd, imm),
         Instruction::Jal { rd, imm } => Form::J(JAL, rd, imm),
-        Instruction::Ecall => Form::I(SYSTEM, 0b000, Register::ZERO, Register::ZERO, 0),
-        Instruction::Ebreak => Form::I(SYSTEM, 0b000, Register::ZERO, Register::ZERO, 1),
+        Instruction::Ecall => Form::I(SYSTEM, 0b000, 0, 0, 0),
+        Instruction::Ebreak => Form::I(SYSTEM, 0b000, 0, 0, 1),
     }
 }

@@ -1,6 +1,7 @@
 // The encoder of the RV32IM instructions: an instruction to its 32-bit word, or the refusal.
 mod formats;
 pub mod instruction;
+pub mod sequences;
 pub mod split;
 
 use crate::formats::b_word;
@@ -14,7 +15,6 @@ use crate::instruction::Instruction;
 use crate::instruction::form_of;
 use numbers::ints::bits_of_i32;
 use numbers::ints::in_signed12;
-use numbers::registers::Register;
 ghost use mathlib.Core.Path.{_≡_};
 ghost use mathlib.Core.Bool.{_&&_, true};
 ghost use Rattle.encoder.specs.Formats.{joined, rFields, iFields, sFields, bFields, uFields, jFields};
@@ -28,10 +28,10 @@ pub enum Encoded {
     BadField,
 }
 
-fn is_register(r: Register) -> bool
+fn is_register(r: u8) -> bool
     ensures { λ b. ⌜ b ≡ isRegister r ⌝ }
 {
-    r.0 <= 31
+    r <= 31
 }
 
 // The word where both tests hold, else the refusal of the first that does not.
@@ -65,68 +65,68 @@ fn is_upper(imm: i32) -> bool
     bits_of_i32(imm) % 4096 == 0
 }
 
-fn pack_r(opcode: u8, funct3: u8, funct7: u8, rd: Register, rs1: Register, rs2: Register) -> Encoded
+fn pack_r(opcode: u8, funct3: u8, funct7: u8, rd: u8, rs1: u8, rs2: u8) -> Encoded
     ensures { λ r. ⌜ encodedResult r ≡ checked (isRegister rd && isRegister rs1 && isRegister rs2) true
-        (joined (rFields opcode funct3 funct7 (rd .0) (rs1 .0) (rs2 .0))) ⌝ }
+        (joined (rFields opcode funct3 funct7 rd rs1 rs2)) ⌝ }
 {
     answer(
         is_register(rd) & is_register(rs1) & is_register(rs2),
         true,
-        r_word(opcode, funct3, funct7, rd.0, rs1.0, rs2.0),
+        r_word(opcode, funct3, funct7, rd, rs1, rs2),
     )
 }
 
-fn pack_i(opcode: u8, funct3: u8, rd: Register, rs1: Register, fits: bool, imm: u32) -> Encoded
-    ensures { λ r. ⌜ encodedResult r ≡ checked (isRegister rd && isRegister rs1) fits (joined (iFields opcode funct3 (rd .0) (rs1 .0) imm)) ⌝ }
+fn pack_i(opcode: u8, funct3: u8, rd: u8, rs1: u8, fits: bool, imm: u32) -> Encoded
+    ensures { λ r. ⌜ encodedResult r ≡ checked (isRegister rd && isRegister rs1) fits (joined (iFields opcode funct3 rd rs1 imm)) ⌝ }
 {
     answer(
         is_register(rd) & is_register(rs1),
         fits,
-        i_word(opcode, funct3, rd.0, rs1.0, imm),
+        i_word(opcode, funct3, rd, rs1, imm),
     )
 }
 
-fn pack_shift(opcode: u8, funct3: u8, funct7: u8, rd: Register, rs1: Register, shamt: u8) -> Encoded
+fn pack_shift(opcode: u8, funct3: u8, funct7: u8, rd: u8, rs1: u8, shamt: u8) -> Encoded
     ensures { λ r. ⌜ encodedResult r ≡ checked (isRegister rd && isRegister rs1) (isShift shamt)
-        (joined (rFields opcode funct3 funct7 (rd .0) (rs1 .0) shamt)) ⌝ }
+        (joined (rFields opcode funct3 funct7 rd rs1 shamt)) ⌝ }
 {
     answer(
         is_register(rd) & is_register(rs1),
         shamt <= 31,
-        r_word(opcode, funct3, funct7, rd.0, rs1.0, shamt),
+        r_word(opcode, funct3, funct7, rd, rs1, shamt),
     )
 }
 
-fn pack_s(opcode: u8, funct3: u8, rs1: Register, rs2: Register, fits: bool, imm: u32) -> Encoded
-    ensures { λ r. ⌜ encodedResult r ≡ checked (isRegister rs1 && isRegister rs2) fits (joined (sFields opcode funct3 (rs1 .0) (rs2 .0) imm)) ⌝ }
+fn pack_s(opcode: u8, funct3: u8, rs1: u8, rs2: u8, fits: bool, imm: u32) -> Encoded
+    ensures { λ r. ⌜ encodedResult r ≡ checked (isRegister rs1 && isRegister rs2) fits (joined (sFields opcode funct3 rs1 rs2 imm)) ⌝ }
 {
     answer(
         is_register(rs1) & is_register(rs2),
         fits,
-        s_word(opcode, funct3, rs1.0, rs2.0, imm),
+        s_word(opcode, funct3, rs1, rs2, imm),
     )
 }
 
-fn pack_b(opcode: u8, funct3: u8, rs1: Register, rs2: Register, fits: bool, imm: u32) -> Encoded
-    ensures { λ r. ⌜ encodedResult r ≡ checked (isRegister rs1 && isRegister rs2) fits (joined (bFields opcode funct3 (rs1 .0) (rs2 .0) imm)) ⌝ }
+fn pack_b(opcode: u8, funct3: u8, rs1: u8, rs2: u8, fits: bool, imm: u32) -> Encoded
+    ensures { λ r. ⌜ encodedResult r ≡ checked (isRegister rs1 && isRegister rs2) fits (joined (bFields opcode funct3 rs1 rs2 imm)) ⌝ }
 {
     answer(
         is_register(rs1) & is_register(rs2),
         fits,
-        b_word(opcode, funct3, rs1.0, rs2.0, imm),
+        b_word(opcode, funct3, rs1, rs2, imm),
     )
 }
 
-fn pack_u(opcode: u8, rd: Register, fits: bool, imm: u32) -> Encoded
-    ensures { λ r. ⌜ encodedResult r ≡ checked (isRegister rd) fits (joined (uFields opcode (rd .0) imm)) ⌝ }
+fn pack_u(opcode: u8, rd: u8, fits: bool, imm: u32) -> Encoded
+    ensures { λ r. ⌜ encodedResult r ≡ checked (isRegister rd) fits (joined (uFields opcode rd imm)) ⌝ }
 {
-    answer(is_register(rd), fits, u_word(opcode, rd.0, imm))
+    answer(is_register(rd), fits, u_word(opcode, rd, imm))
 }
 
-fn pack_j(opcode: u8, rd: Register, fits: bool, imm: u32) -> Encoded
-    ensures { λ r. ⌜ encodedResult r ≡ checked (isRegister rd) fits (joined (jFields opcode (rd .0) imm)) ⌝ }
+fn pack_j(opcode: u8, rd: u8, fits: bool, imm: u32) -> Encoded
+    ensures { λ r. ⌜ encodedResult r ≡ checked (isRegister rd) fits (joined (jFields opcode rd imm)) ⌝ }
 {
-    answer(is_register(rd), fits, j_word(opcode, rd.0, imm))
+    answer(is_register(rd), fits, j_word(opcode, rd, imm))
 }
 
 // The word of a format's fields, or the refusal. Each immediate's test is chosen here, and its bits are taken; the words are made

@@ -15,7 +15,6 @@ use numbers::digits::Radix;
 use numbers::digits::parse_digits;
 use numbers::imm::parse_imm;
 use numbers::ints::Imm;
-use numbers::registers::Register;
 use numbers::text::same_bytes;
 use replay::field::after_field;
 use replay::field::field;
@@ -33,13 +32,7 @@ fn byte(field: &[u8]) -> Small {
     }
 }
 
-fn registers_agree(
-    name: &[u8],
-    rd: Register,
-    rs1: Register,
-    rs2: Register,
-    expected: &[u8],
-) -> bool {
+fn registers_agree(name: &[u8], rd: u8, rs1: u8, rs2: u8, expected: &[u8]) -> bool {
     arithmetic(name, rd, rs1, rs2, expected)
         | bitwise(name, rd, rs1, rs2, expected)
         | multiply(name, rd, rs1, rs2, expected)
@@ -47,15 +40,15 @@ fn registers_agree(
 }
 
 // Three registers, or two and a shift.
-fn third_byte(name: &[u8], a: Register, b: Register, third: &[u8], expected: &[u8]) -> bool {
+fn third_byte(name: &[u8], a: u8, b: u8, third: &[u8], expected: &[u8]) -> bool {
     let Small::Is(c) = byte(third) else {
         return false;
     };
-    registers_agree(name, a, b, Register(c), expected) | shift(name, a, b, c, expected)
+    registers_agree(name, a, b, c, expected) | shift(name, a, b, c, expected)
 }
 
 // Two registers and a number.
-fn third_number(name: &[u8], a: Register, b: Register, third: &[u8], expected: &[u8]) -> bool {
+fn third_number(name: &[u8], a: u8, b: u8, third: &[u8], expected: &[u8]) -> bool {
     let Imm::Value(imm) = parse_imm(third) else {
         return false;
     };
@@ -65,19 +58,18 @@ fn third_number(name: &[u8], a: Register, b: Register, third: &[u8], expected: &
         | branch(name, a, b, imm, expected)
 }
 
-fn second_byte(name: &[u8], a: Register, fields: &[u8]) -> bool {
+fn second_byte(name: &[u8], a: u8, fields: &[u8]) -> bool {
     let Small::Is(b) = byte(field(fields)) else {
         return false;
     };
     let rest = after_field(fields);
     let third = field(rest);
     let expected = after_field(rest);
-    third_byte(name, a, Register(b), third, expected)
-        | third_number(name, a, Register(b), third, expected)
+    third_byte(name, a, b, third, expected) | third_number(name, a, b, third, expected)
 }
 
 // A register and a number; the third field is 0.
-fn second_number(name: &[u8], a: Register, fields: &[u8]) -> bool {
+fn second_number(name: &[u8], a: u8, fields: &[u8]) -> bool {
     let Imm::Value(imm) = parse_imm(field(fields)) else {
         return false;
     };
@@ -90,7 +82,7 @@ fn operands_agree(name: &[u8], fields: &[u8]) -> bool {
         return false;
     };
     let rest = after_field(fields);
-    second_byte(name, Register(a), rest) | second_number(name, Register(a), rest)
+    second_byte(name, a, rest) | second_number(name, a, rest)
 }
 
 // No fields: all three are 0.

@@ -2,17 +2,10 @@
 // instruction's answer is the expected one.
 use crate::answer::answers;
 use encoder::instruction::Instruction;
-use numbers::registers::Register;
 use numbers::text::same_bytes;
 
 // Format R, sums and comparisons.
-pub fn arithmetic(
-    name: &[u8],
-    rd: Register,
-    rs1: Register,
-    rs2: Register,
-    expected: &[u8],
-) -> bool {
+pub fn arithmetic(name: &[u8], rd: u8, rs1: u8, rs2: u8, expected: &[u8]) -> bool {
     if same_bytes(name, b"add") {
         return answers(Instruction::Add { rd, rs1, rs2 }, expected);
     }
@@ -29,7 +22,7 @@ pub fn arithmetic(
 }
 
 // Format R, bits and shifts.
-pub fn bitwise(name: &[u8], rd: Register, rs1: Register, rs2: Register, expected: &[u8]) -> bool {
+pub fn bitwise(name: &[u8], rd: u8, rs1: u8, rs2: u8, expected: &[u8]) -> bool {
     if same_bytes(name, b"and") {
         return answers(Instruction::And { rd, rs1, rs2 }, expected);
     }
@@ -52,7 +45,7 @@ pub fn bitwise(name: &[u8], rd: Register, rs1: Register, rs2: Register, expected
 }
 
 // Format R, products.
-pub fn multiply(name: &[u8], rd: Register, rs1: Register, rs2: Register, expected: &[u8]) -> bool {
+pub fn multiply(name: &[u8], rd: u8, rs1: u8, rs2: u8, expected: &[u8]) -> bool {
     if same_bytes(name, b"mul") {
         return answers(Instruction::Mul { rd, rs1, rs2 }, expected);
     }
@@ -69,7 +62,7 @@ pub fn multiply(name: &[u8], rd: Register, rs1: Register, rs2: Register, expecte
 }
 
 // Format R, quotients.
-pub fn divide(name: &[u8], rd: Register, rs1: Register, rs2: Register, expected: &[u8]) -> bool {
+pub fn divide(name: &[u8], rd: u8, rs1: u8, rs2: u8, expected: &[u8]) -> bool {
     if same_bytes(name, b"div") {
         return answers(Instruction::Div { rd, rs1, rs2 }, expected);
     }
@@ -86,7 +79,7 @@ pub fn divide(name: &[u8], rd: Register, rs1: Register, rs2: Register, expected:
 }
 
 // Format I with a number as operand.
-pub fn immediate(name: &[u8], rd: Register, rs1: Register, imm: i32, expected: &[u8]) -> bool {
+pub fn immediate(name: &[u8], rd: u8, rs1: u8, imm: i32, expected: &[u8]) -> bool {
     if same_bytes(name, b"addi") {
         return answers(Instruction::Addi { rd, rs1, imm }, expected);
     }
@@ -109,7 +102,7 @@ pub fn immediate(name: &[u8], rd: Register, rs1: Register, imm: i32, expected: &
 }
 
 // Format I with a shift.
-pub fn shift(name: &[u8], rd: Register, rs1: Register, shamt: u8, expected: &[u8]) -> bool {
+pub fn shift(name: &[u8], rd: u8, rs1: u8, shamt: u8, expected: &[u8]) -> bool {
     if same_bytes(name, b"slli") {
         return answers(Instruction::Slli { rd, rs1, shamt }, expected);
     }
@@ -123,7 +116,7 @@ pub fn shift(name: &[u8], rd: Register, rs1: Register, shamt: u8, expected: &[u8
 }
 
 // Format I with an address.
-pub fn load(name: &[u8], rd: Register, rs1: Register, imm: i32, expected: &[u8]) -> bool {
+pub fn load(name: &[u8], rd: u8, rs1: u8, imm: i32, expected: &[u8]) -> bool {
     if same_bytes(name, b"lb") {
         return answers(Instruction::Lb { rd, rs1, imm }, expected);
     }
@@ -146,7 +139,7 @@ pub fn load(name: &[u8], rd: Register, rs1: Register, imm: i32, expected: &[u8])
 }
 
 // Format S.
-pub fn store(name: &[u8], rs2: Register, rs1: Register, imm: i32, expected: &[u8]) -> bool {
+pub fn store(name: &[u8], rs2: u8, rs1: u8, imm: i32, expected: &[u8]) -> bool {
     if same_bytes(name, b"sb") {
         return answers(Instruction::Sb { rs2, rs1, imm }, expected);
     }
@@ -160,7 +153,7 @@ pub fn store(name: &[u8], rs2: Register, rs1: Register, imm: i32, expected: &[u8
 }
 
 // Format B.
-pub fn branch(name: &[u8], rs1: Register, rs2: Register, imm: i32, expected: &[u8]) -> bool {
+pub fn branch(name: &[u8], rs1: u8, rs2: u8, imm: i32, expected: &[u8]) -> bool {
     if same_bytes(name, b"beq") {
         return answers(Instruction::Beq { rs1, rs2, imm }, expected);
     }
@@ -183,7 +176,7 @@ pub fn branch(name: &[u8], rs1: Register, rs2: Register, imm: i32, expected: &[u
 }
 
 // Formats U and J.
-pub fn upper(name: &[u8], rd: Register, imm: i32, expected: &[u8]) -> bool {
+pub fn upper(name: &[u8], rd: u8, imm: i32, expected: &[u8]) -> bool {
     if same_bytes(name, b"lui") {
         return answers(Instruction::Lui { rd, imm }, expected);
     }

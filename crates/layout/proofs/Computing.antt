@@ -20,7 +20,8 @@ use Rattle.layout.specs.Expressions.{scan, tokensIn, anyUnreadable, sumF
 use Rattle.layout.specs.Rounds.{constant, turn, pass, pendingCount, firstPending, rounds}
 use Rattle.layout.specs.Expansions.{expansion}
 use Rattle.layout.specs.Records.{fieldBytes}
-use Rattle.layout.specs.Layouts.{encoded, emit, foundEquates, checkBytes, afterLines, layoutOf}
+use Rattle.layout.specs.Layouts.{emit, foundEquates, checkBytes, afterLines, layoutOf}
+use Rattle.encoder.specs.Encoding.{encoded}
 
 unfoldable pub computing : Unit {0}
 unfolding

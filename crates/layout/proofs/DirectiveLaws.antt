@@ -1,20 +1,22 @@
 -- The table of directives, in the code's columns, against the definition's rows: for any table.
-use Prim.Native.Nat.{ℕ, zero, suc, _+_, _*_, _≤_, _<_}
+use Prim.Native.Nat.{ℕ, zero, suc, _+_, _≤_, _<_}
 use native.Mathlib.Omega.{arith}
 use mathlib.Core.Path.{_≡_, refl, sym, ap, subst, _∙_}
 use mathlib.Core.List.{List, [], _∷_, map}
 use mathlib.Core.Bool.{Bool, true, false, cond, not, _&&_, false≢true}
-use mathlib.Core.Option.{none, some}
+use mathlib.Core.Option.{Option, none, some}
 use lib.Dec.{eqb, ltb, leb}
-use lib.ListN.{length, getD, length-map, List·getD-map}
+use lib.ListN.{length, take, drop, getD}
 use mir.Syntax.{w64}
 use mir.Val.{Fits}
-use borrow.Author.Tests.{eqb-true, ltb-true, ltb-false, leb-true}
+use borrow.Author.Tests.{eqb-true, ltb-true, leb-true}
+use Rattle.numbers.specs.declared.table.Found.{Found}
+use Rattle.numbers.specs.declared.table.Found.the-variants.{At, Nothing}
 use Rattle.numbers.specs.Text.{text, startsWith}
-use Rattle.numbers.specs.code.Tables.{rows, prefixIn}
+use Rattle.numbers.specs.code.Tables.{isWord, rowName, all, first, foundRow}
 use Rattle.numbers.proofs.Bools.{and-left, and-right}
 use Rattle.numbers.proofs.Prefixes.{prefix-length, longer-prefix}
-use Rattle.numbers.proofs.Rows.{prefix-found, column-of}
+use Rattle.numbers.proofs.Rows.{made-name, made-room, made-read, first-meets, row-missed, row-found}
 use Rattle.layout.specs.declared.directives.Width.the-variants.{Byte, Half, Word, Dword}
 use Rattle.layout.specs.declared.directives.Reserve.the-variants.{Space, Align}
 use Rattle.layout.specs.declared.directives.Store.the-variants.{Numbers, Text, Float}
@@ -24,7 +26,7 @@ use Rattle.layout.specs.declared.directives.Spelling.{Spelling}
 use Rattle.layout.specs.declared.directives.Spelled.{Spelled}
 use Rattle.layout.specs.declared.directives.Spelled.the-variants as spelled
 use Rattle.layout.specs.Directives.{Row, directives, rowIn}
-use Rattle.layout.specs.code.Rows.{directiveNumber, DirectiveTable, rowCode, DirectiveFits, SpelledWithin}
+use Rattle.layout.specs.code.Rows.{directiveNumber, directiveRow, rowCode, DirectiveFits, SpelledWithin}
 
 -- ---- numbers
 
@@ -75,113 +77,118 @@ number-fits (Stores (Text (suc (suc z)))) h = absurd (omega arith)
 
 -- ---- rows
 
-abbrev names : List Row → List (List ℕ)
-names rs = map (λ r. r .name) rs
+-- a name is a word of at most 12 bytes, and the number one that `directive_numbered` knows
+abbrev isSmall : Row → Bool
+isSmall r = isWord (r .name) && (ltb (length (r .name)) 13 && leb (directiveNumber (r .directive)) 11)
 
-abbrev noRow : Row
-noRow = record { name = []; directive = Symbol; inData = false }
+abbrev DirectivesSmall : List Row → Type 0
+DirectivesSmall rs = all isSmall rs ≡ true
 
-row-none : (rs : List Row) (s : List ℕ) → length rs ≤ prefixIn (names rs) s → rowIn rs s ≡ none
-unfolding prefixIn rowIn
-row-none [] s h = refl
-row-none (r ∷ rs) s h = go (startsWith (r .name) s) (row-none rs s) h
-  where
-    go : (t : Bool) → (length rs ≤ prefixIn (names rs) s → rowIn rs s ≡ none) → suc (length rs) ≤ cond t 0 (suc (prefixIn (names rs) s))
-        → cond t (some r) (rowIn rs s) ≡ none
-    go true f k = absurd (omega arith)
-    go false f k = f (omega arith)
+pub directives-small : DirectivesSmall directives
+unfolding directives all isWord
+directives-small = refl
 
-row-some : (rs : List Row) (s : List ℕ) → prefixIn (names rs) s < length rs → rowIn rs s ≡ some (getD rs (prefixIn (names rs) s) noRow)
-unfolding prefixIn rowIn
-row-some [] s h = absurd (omega arith)
-row-some (r ∷ rs) s h = go (startsWith (r .name) s) (row-some rs s) h
-  where
-    go : (t : Bool) → (prefixIn (names rs) s < length rs → rowIn rs s ≡ some (getD rs (prefixIn (names rs) s) noRow))
-        → cond t 0 (suc (prefixIn (names rs) s)) < suc (length rs)
-        → cond t (some r) (rowIn rs s) ≡ some (getD (r ∷ rs) (cond t 0 (suc (prefixIn (names rs) s))) noRow)
-    go true f k = refl
-    go false f k = f (omega arith)
+module _ (r : Row) (small : isSmall r ≡ true) where
+  small-word : isWord (r .name) ≡ true
+  small-word = and-left (isWord (r .name)) (ltb (length (r .name)) 13 && leb (directiveNumber (r .directive)) 11) small
+
+  small-rest : ltb (length (r .name)) 13 && leb (directiveNumber (r .directive)) 11 ≡ true
+  small-rest = and-right (isWord (r .name)) (ltb (length (r .name)) 13 && leb (directiveNumber (r .directive)) 11) small
+
+  small-length : length (r .name) < 13
+  small-length = ltb-true (length (r .name)) 13 (and-left (ltb (length (r .name)) 13) (leb (directiveNumber (r .directive)) 11) small-rest)
+
+  small-number : directiveNumber (r .directive) ≤ 11
+  small-number = leb-true (directiveNumber (r .directive)) 11 (and-right (ltb (length (r .name)) 13) (leb (directiveNumber (r .directive)) 11) small-rest)
+
+-- a statement begins with a row's name
+abbrev begins : List ℕ → Row → Bool
+begins s r = startsWith (r .name) s
+
+row-first : (rs : List Row) (s : List ℕ) → rowIn rs s ≡ first (begins s) rs
+unfolding rowIn first
+row-first [] s = refl
+row-first (r ∷ rs) s = ap (cond (startsWith (r .name) s) (some r)) (row-first rs s)
+
+row-begins : (s : List ℕ) (r : Row) → isSmall r ≡ true → startsWith (rowName (directiveRow r)) s ≡ begins s r
+row-begins s r small =
+    ap (λ (n : List ℕ). startsWith n s)
+    (made-name (r .name) (length (r .name) ∷ directiveNumber (r .directive) ∷ cond (r .inData) 1 0 ∷ []) (omega (arith, small-length r small)) (small-word r small))
 
 flag-back : (b : Bool) → not (eqb (cond b 1 0) 0) ≡ b
 flag-back true = refl
 flag-back false = refl
 
--- every number is one that `directive_numbered` knows
-abbrev DirectivesSmall : List Row → Type 0
-DirectivesSmall rs = map (λ r. leb (directiveNumber (r .directive)) 11) rs ≡ map (λ r. true) rs
-
-pub directives-small : DirectivesSmall directives
-unfolding directives
-directives-small = refl
-
-number-small : (rs : List Row) (i : ℕ) → DirectivesSmall rs → directiveNumber (getD rs i noRow .directive) ≤ 11
-number-small rs i small =
-    leb-true (directiveNumber (getD rs i noRow .directive)) 11
-    (sym (List·getD-map (λ (r : Row). leb (directiveNumber (r .directive)) 11) rs i noRow) ∙ ap (λ (l : List Bool). getD l i true) small
-    ∙ List·getD-map (λ (r : Row). true) rs i noRow)
-
 -- a spelling that is found stands at the statement's start
 pub row-within : (rs : List Row) (s : List ℕ) → DirectivesSmall rs → SpelledWithin (rowCode (rowIn rs s)) (length s)
-row-within rs s small = go (ltb place (length rs)) refl
+row-within rs s small = go (rowIn rs s) (row-first rs s)
   where
-    place : ℕ
-    place = prefixIn (names rs) s
-
-    begins : place < length rs → startsWith (getD rs place noRow .name) s ≡ true
-    begins h = rw (← List·getD-map (λ (r : Row). r .name) rs place noRow) (prefix-found (names rs) s (rw (length-map rs (λ (r : Row). r .name)) h))
-
-    go : (t : Bool) → ltb place (length rs) ≡ t → SpelledWithin (rowCode (rowIn rs s)) (length s)
-    go true e =
-        let h = ltb-true place (length rs) e in
-        rw (row-some rs s h)
-        (prefix-length (getD rs place noRow .name) s (begins h), number-fits (getD rs place noRow .directive) (number-small rs place small))
-    go false e = rw (row-none rs s (ltb-false place (length rs) e)) tt
+    go : (o : Option Row) → o ≡ first (begins s) rs → SpelledWithin (rowCode o) (length s)
+    go none e = tt
+    go (some r) e =
+        let m = first-meets isSmall (begins s) rs small r (sym e) in
+        (prefix-length (r .name) s (m .1), number-fits (r .directive) (small-number r (m .0)))
 
 -- the row that the code finds: none, or one whose columns say what it is
-module _ (rs : List Row) (t s : List ℕ) (table : DirectiveTable rs t) (small : DirectivesSmall rs) (i : ℕ) (at : i ≡ prefixIn (rows (length rs) t) s) where
-  placed : i ≡ prefixIn (names rs) s
-  placed = rw (table .names) at at
-
+module _ (rs : List Row) (t s : List ℕ) (small : DirectivesSmall rs) (r : Found) (is : foundRow t r ≡ first (λ x. startsWith (rowName x) s) (map directiveRow rs)) where
   -- what the statement's row is, is within the statement
   within : (r : Spelled) → r ≡ rowCode (rowIn rs s) → (r ≡ rowCode (rowIn rs s)) × SpelledWithin r (length s)
   within r e = (e, subst (λ (x : Spelled). SpelledWithin x (length s)) (sym e) (row-within rs s small))
 
-  pub row-past : length rs ≤ i → (spelled.Nothing ≡ rowCode (rowIn rs s)) × SpelledWithin spelled.Nothing (length s)
-  row-past h = within spelled.Nothing (rw (row-none rs s (rw placed at h)) refl)
+  pub row-past : r ≡ Nothing → (spelled.Nothing ≡ rowCode (rowIn rs s)) × SpelledWithin spelled.Nothing (length s)
+  row-past e =
+      within spelled.Nothing
+      (sym (ap rowCode (row-first rs s ∙ row-missed directiveRow (λ x. startsWith (rowName x) s) isSmall (begins s) (row-begins s) rs small t r is e)))
 
-  module _ (h : i < length rs) where
+  module _ (at : ℕ) (e : r ≡ At at) where
+    there : (x : Row) × (first (begins s) rs ≡ some x) × (directiveRow x ≡ take 16 (drop at t))
+    there = row-found directiveRow (λ x. startsWith (rowName x) s) isSmall (begins s) (row-begins s) rs small t r is at e
+
     abbrev found : Row
-    found = getD rs i noRow
+    found = there .0
 
-    number-is : getD t (i * 16 + 14) 0 ≡ directiveNumber (found .directive)
-    number-is = column-of (λ (r : Row). directiveNumber (r .directive)) rs noRow 14 i t (table .kinds) h
+    abbrev columns : List ℕ
+    columns = length (found .name) ∷ directiveNumber (found .directive) ∷ cond (found .inData) 1 0 ∷ []
 
-    pub directive-few : getD t (i * 16 + 14) 0 ≤ 11
-    directive-few = rw number-is (number-small rs i small)
+    good : isSmall found ≡ true
+    good = first-meets isSmall (begins s) rs small found (there .1) .0
 
-    module _ (d : Directive) (is : directiveNumber d ≡ getD t (i * 16 + 14) 0) where
+    fits : length (found .name) + length columns ≤ 16
+    fits = omega (arith, small-length found good)
+
+    pub row-room : at + 16 ≤ length t
+    row-room = made-room t (found .name) columns at fits (sym (there .2))
+
+    column : (i : ℕ) → i < 3 → getD t (at + (13 + i)) 0 ≡ getD columns i 0
+    column i h = made-read t (found .name) columns at fits (sym (there .2)) i h
+
+    number-is : getD t (at + 14) 0 ≡ directiveNumber (found .directive)
+    number-is = column 1 (omega arith)
+
+    pub directive-few : getD t (at + 14) 0 ≤ 11
+    directive-few = rw number-is (small-number found good)
+
+    module _ (d : Directive) (says : directiveNumber d ≡ getD t (at + 14) 0) where
       abbrev answer : Spelling
-      answer = record { directive = d; len = getD t (i * 16 + 13) 0; «in_data» = not (eqb (getD t (i * 16 + 15) 0) 0) }
+      answer = record { directive = d; len = getD t (at + 13) 0; «in_data» = not (eqb (getD t (at + 15) 0) 0) }
 
       directive-back : d ≡ found .directive
-      directive-back = number-tells d (found .directive) (is ∙ number-is) (omega (arith, is, directive-few))
+      directive-back = number-tells d (found .directive) (says ∙ number-is) (omega (arith, says, directive-few))
 
-      length-back : getD t (i * 16 + 13) 0 ≡ length (found .name)
-      length-back = column-of (λ (r : Row). length (r .name)) rs noRow 13 i t (table .lengths) h
+      length-back : getD t (at + 13) 0 ≡ length (found .name)
+      length-back = column 0 (omega arith)
 
-      data-back : not (eqb (getD t (i * 16 + 15) 0) 0) ≡ found .inData
-      data-back =
-          ap (λ (k : ℕ). not (eqb k 0)) (column-of (λ (r : Row). cond (r .inData) 1 0) rs noRow 15 i t (table .dataHas) h)
-          ∙ flag-back (found .inData)
+      data-back : not (eqb (getD t (at + 15) 0) 0) ≡ found .inData
+      data-back = ap (λ (k : ℕ). not (eqb k 0)) (column 2 (omega arith)) ∙ flag-back (found .inData)
 
       pub row-here : (spelled.As answer ≡ rowCode (rowIn rs s)) × SpelledWithin (spelled.As answer) (length s)
       row-here =
-          let row : rowIn rs s ≡ some found = rw placed (row-some rs s (rw placed at h)) in
+          let row : rowIn rs s ≡ some found = row-first rs s ∙ there .1 in
           let same : rowCode (some found) ≡ spelled.As answer = rw (directive-back, length-back, data-back) refl in
           within (spelled.As answer) (sym (ap rowCode row ∙ same))
 
       -- the length of the row's name
-      pub length-fits : Fits w64 (length s) → Fits w64 (getD t (i * 16 + 13) 0)
+      pub length-fits : Fits w64 (length s) → Fits w64 (getD t (at + 13) 0)
       length-fits f = record { fits = omega (arith, row-here .1 .0, f .fits) }
 
 -- ---- statements without a dot

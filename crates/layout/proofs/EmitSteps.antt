@@ -27,7 +27,8 @@ use Rattle.layout.specs.code.Emits.{Unemitted, emittedIn, EmitLeft}
 use Rattle.layout.specs.code.Steps.{Some, Agrees}
 use Rattle.layout.specs.code.Placed.{PlaceCoded}
 use Rattle.layout.specs.code.Names.{Scope, NamesStand}
-use Rattle.layout.specs.code.Expands.{WordsPut, emissionIn, sourceSpan, ItemRecordFits}
+use Rattle.encoder.specs.code.Slots.{WordsPut}
+use Rattle.layout.specs.code.Expands.{emissionIn, sourceSpan, ItemRecordFits}
 use Rattle.layout.specs.declared.state.Section.the-variants as section
 use Rattle.layout.specs.code.Stands.{itemSoFar}
 use Rattle.layout.proofs.ByteLaws.{length-put, put-lent, put-pad}

@@ -1,24 +1,26 @@
--- Pseudo-instructions: a line's item by its first word's place in the table of spellings, for any table; an li's words; an item by its kind.
-use Prim.Native.Nat.{ℕ, zero, suc, _+_, _*_, _≤_, _<_}
+-- Pseudo-instructions: a line's item by its first word's row in the table of spellings, for any table; an li's words; an item by its kind.
+use Prim.Native.Nat.{ℕ, suc, _+_, _≤_, _<_}
 use native.Mathlib.Omega.{arith}
 use mathlib.Core.Path.{_≡_, refl, sym, ap, _∙_}
 use mathlib.Core.List.{List, [], _∷_, map}
 use mathlib.Core.Bool.{Bool, true, false, cond, not, _&&_, _||_, false≢true, and-false}
 use mathlib.Core.Option.{Option, none, some}
-use lib.Dec.{eqb, leb, leb·suc-suc}
-use lib.ListN.{length, take, drop, getD, List·getD-map}
-use borrow.Author.Tests.{eqb-true, eq-eqb, ne-eqb, eqb-false, not-true, lt-leb}
+use lib.Dec.{eqb, ltb, leb, leb·suc-suc}
+use lib.ListN.{length, take, drop, getD}
+use borrow.Author.Tests.{eqb-true, eq-eqb, ne-eqb, eqb-false, not-true, lt-leb, ltb-true}
 use Rattle.numbers.specs.declared.text.Span.{Span}
+use Rattle.numbers.specs.declared.table.Found.{Found}
+use Rattle.numbers.specs.declared.table.Found.the-variants as found
 use Rattle.numbers.specs.declared.operands.Operand.the-variants.{At, End}
 use Rattle.numbers.specs.Text.{text, startsWith, same, indexOf, before, oneSpaced}
 use Rattle.numbers.specs.code.Spans.{spanned}
-use Rattle.numbers.specs.code.Tables.{isWord, rows, indexIn}
+use Rattle.numbers.specs.code.Tables.{isWord, rowName, all, first, foundRow}
 use Rattle.numbers.specs.Numbers.{immOf, spacedImmOf}
 use Rattle.numbers.specs.Operands.{itemOperands}
 use Rattle.numbers.specs.code.Cursors.{itemOperandsFrom, itemOperandAt}
 use Rattle.numbers.proofs.Bools.{and-left, and-right, or-left, or-right}
 use Rattle.numbers.proofs.Prefixes.{same-equal}
-use Rattle.numbers.proofs.Rows.{column-of}
+use Rattle.numbers.proofs.Rows.{made-name, made-room, made-read, first-meets, row-missed, row-found}
 use Rattle.numbers.proofs.Parts.{items-spaced, item-step, item-end, items-all}
 use Rattle.layout.specs.declared.pseudo.Pseudo.{Pseudo}
 use Rattle.layout.specs.declared.pseudo.Pseudo.the-variants.{Li, La, Push, Pop, Print, PrintStr, Read, ReadByte, Random}
@@ -26,7 +28,7 @@ use Rattle.layout.specs.declared.pseudo.LineKind.the-variants as kind
 use Rattle.layout.specs.declared.pseudo.TextLine.the-variants as line
 use Rattle.layout.specs.Pseudos.{Item, ordinary, pseudo, other, Spelling, spellings, itemIn}
 use Rattle.layout.specs.Pseudos.{pseudoOperands, isSingle, liWords, reservedWords, pseudoKind, itemKind}
-use Rattle.layout.specs.code.Kinds.{itemNumber, SpellingTable, beginsAsPseudo, textLineCode}
+use Rattle.layout.specs.code.Kinds.{itemNumber, spellingRow, beginsAsPseudo, textLineCode}
 use Rattle.layout.proofs.Each.{cond-has}
 
 -- ---- one spelling
@@ -63,73 +65,73 @@ spelled-word (y ∷ n) (x ∷ s) bare h = go (eqb x y) refl (eqb x 32) refl (spe
 
 -- ---- the table of spellings
 
--- every name a word, and no two the same: what a table is tested for
+-- every name a word of at most 13 bytes, and no two the same: what a table is tested for
+abbrev isShort : Spelling → Bool
+isShort x = isWord (x .name) && ltb (length (x .name)) 14
+
 unfoldable pub isName : List ℕ → List Spelling → Bool
 isName w [] = false
 isName w (x ∷ xs) = same (x .name) w || isName w xs
 
-unfoldable pub sound : List Spelling → Bool
-sound [] = true
-sound (x ∷ xs) = isWord (x .name) && (not (isName (x .name) xs) && sound xs)
+unfoldable pub apart : List Spelling → Bool
+apart [] = true
+apart (x ∷ xs) = not (isName (x .name) xs) && apart xs
 
-pub spellings-sound : sound spellings ≡ true
-unfolding sound isName isWord same spellings
-spellings-sound = refl
+abbrev Sound : List Spelling → Type 0
+Sound xs = (all isShort xs ≡ true) × (apart xs ≡ true)
 
-abbrev names : List Spelling → List (List ℕ)
-names xs = map (λ x. x .name) xs
+pub spellings-sound : Sound spellings
+unfolding all apart isName isWord same spellings
+spellings-sound = (refl, refl)
 
-no-name : (xs : List Spelling) (s : List ℕ) → sound xs ≡ true → isName (before 32 s) xs ≡ false → itemIn xs s ≡ ordinary
-unfolding isName itemIn sound
+module _ (x : Spelling) (short : isShort x ≡ true) where
+  short-word : isWord (x .name) ≡ true
+  short-word = and-left (isWord (x .name)) (ltb (length (x .name)) 14) short
+
+  short-length : length (x .name) < 14
+  short-length = ltb-true (length (x .name)) 14 (and-right (isWord (x .name)) (ltb (length (x .name)) 14) short)
+
+-- a spelling of a word
+abbrev names : List ℕ → Spelling → Bool
+names w x = same (x .name) w
+
+no-name : (xs : List Spelling) (s : List ℕ) → all isShort xs ≡ true → isName (before 32 s) xs ≡ false → itemIn xs s ≡ ordinary
+unfolding isName itemIn all
 no-name [] s p h = refl
 no-name (x ∷ xs) s p h =
-    let q = and-right (isWord (x .name)) (not (isName (x .name) xs) && sound xs) p in
     rw (
       itemIn,
-      spelled-word (x .name) s (x .bare) (and-left (isWord (x .name)) (not (isName (x .name) xs) && sound xs) p),
+      spelled-word (x .name) s (x .bare) (short-word x (and-left (isShort x) (all isShort xs) p)),
       or-left (same (x .name) (before 32 s)) (isName (before 32 s) xs) h,
     )
-    (no-name xs s (and-right (not (isName (x .name) xs)) (sound xs) q) (or-right (same (x .name) (before 32 s)) (isName (before 32 s) xs) h))
+    (no-name xs s (and-right (isShort x) (all isShort xs) p) (or-right (same (x .name) (before 32 s)) (isName (before 32 s) xs) h))
 
--- the item at a place, where the line goes on after its first word or the spelling may end it
-unfoldable listedItem : List Spelling → ℕ → Bool → Item
-listedItem [] i t = ordinary
-listedItem (x ∷ xs) zero t = cond (not (t && not (x .bare))) (x .item) ordinary
-listedItem (x ∷ xs) (suc i) t = listedItem xs i t
+-- the item of a spelling that is found, where the line goes on after its first word or the spelling may end it
+abbrev itemFound : Option Spelling → Bool → Item
+itemFound none t = ordinary
+itemFound (some x) t = cond (not (t && not (x .bare))) (x .item) ordinary
 
-item-indexed : (xs : List Spelling) (s : List ℕ) → sound xs ≡ true → itemIn xs s ≡ listedItem xs (indexIn (names xs) (before 32 s)) (endsLine s)
-unfolding sound itemIn listedItem indexIn
-item-indexed [] s p = refl
-item-indexed (x ∷ xs) s p =
-    let n = and-left (isWord (x .name)) (not (isName (x .name) xs) && sound xs) p in
-    let q = and-right (isWord (x .name)) (not (isName (x .name) xs) && sound xs) p in
-    rw (spelled-word (x .name) s (x .bare) n)
-    (go (same (x .name) (before 32 s)) refl (not-true (isName (x .name) xs) (and-left (not (isName (x .name) xs)) (sound xs) q))
-    (and-right (not (isName (x .name) xs)) (sound xs) q) (item-indexed xs s (and-right (not (isName (x .name) xs)) (sound xs) q)))
+item-first : (xs : List Spelling) (s : List ℕ) → all isShort xs ≡ true → apart xs ≡ true → itemIn xs s ≡ itemFound (first (names (before 32 s)) xs) (endsLine s)
+unfolding all apart itemIn first
+item-first [] s p d = refl
+item-first (x ∷ xs) s p d =
+    let more = and-right (isShort x) (all isShort xs) p in
+    rw (spelled-word (x .name) s (x .bare) (short-word x (and-left (isShort x) (all isShort xs) p)))
+    (go (same (x .name) (before 32 s)) refl more (not-true (isName (x .name) xs) (and-left (not (isName (x .name) xs)) (apart xs) d))
+    (item-first xs s more (and-right (not (isName (x .name) xs)) (apart xs) d)))
   where
-    go : (t : Bool) → same (x .name) (before 32 s) ≡ t → isName (x .name) xs ≡ false → sound xs ≡ true
-        → itemIn xs s ≡ listedItem xs (indexIn (names xs) (before 32 s)) (endsLine s)
+    go : (t : Bool) → same (x .name) (before 32 s) ≡ t → all isShort xs ≡ true → isName (x .name) xs ≡ false
+        → itemIn xs s ≡ itemFound (first (names (before 32 s)) xs) (endsLine s)
         → cond (t && not (endsLine s && not (x .bare))) (x .item) (itemIn xs s)
-        ≡ listedItem (x ∷ xs) (cond t 0 (suc (indexIn (names xs) (before 32 s)))) (endsLine s)
-    go true e a q ih = rw (no-name xs s q (rw (same-equal (x .name) (before 32 s) e) at a)) refl
-    go false e a q ih = ih
+        ≡ itemFound (cond t (some x) (first (names (before 32 s)) xs)) (endsLine s)
+    go true e p a ih = rw (no-name xs s p (rw (same-equal (x .name) (before 32 s) e) at a)) refl
+    go false e p a ih = ih
 
--- past the last row, and at a row
-item-none : (xs : List Spelling) (i : ℕ) (t : Bool) → length xs ≤ i → listedItem xs i t ≡ ordinary
-unfolding listedItem
-item-none [] i t h = refl
-item-none (x ∷ xs) zero t h = absurd (omega arith)
-item-none (x ∷ xs) (suc i) t h = item-none xs i t (omega arith)
-
-abbrev noSpelling : Spelling
-noSpelling = record { name = []; item = other; bare = false }
-
-item-row : (xs : List Spelling) (i : ℕ) (t : Bool) → i < length xs
-    → listedItem xs i t ≡ cond (not (t && not (getD xs i noSpelling .bare))) (getD xs i noSpelling .item) ordinary
-unfolding listedItem
-item-row [] i t h = absurd (omega arith)
-item-row (x ∷ xs) zero t h = refl
-item-row (x ∷ xs) (suc i) t h = item-row xs i t (omega arith)
+-- the name in a spelling's row
+row-named : (w : List ℕ) (x : Spelling) → isShort x ≡ true → same (rowName (spellingRow x)) w ≡ names w x
+row-named w x short =
+    ap (λ (n : List ℕ). same n w)
+    (made-name (x .name) (itemNumber (x .item) ∷ cond (x .bare) 1 0 ∷ []) (omega (arith, short-length x short)) (short-word x short))
 
 -- ---- an item's kind
 
@@ -183,56 +185,69 @@ isNamed (pseudo p) = true
 isNamed other = true
 
 abbrev Named : List Spelling → Type 0
-Named xs = map (λ x. isNamed (x .item)) xs ≡ map (λ x. true) xs
+Named xs = all (λ x. isNamed (x .item)) xs ≡ true
 
 pub spellings-named : Named spellings
-unfolding spellings
+unfolding spellings all
 spellings-named = refl
 
 -- the row that the code finds: none, one that may not end the line, or one whose columns say what it is
-module _ (q : Span) (xs : List Spelling) (t s : List ℕ) (table : SpellingTable xs t) (ok : sound xs ≡ true) (i : ℕ) (at : i ≡ indexIn (rows (length xs) t) (before 32 s)) where
-  placed : itemIn xs s ≡ listedItem xs i (endsLine s)
-  placed = rw (rw (table .names) at at) (item-indexed xs s ok)
+module _ (q : Span) (xs : List Spelling) (t s : List ℕ) (ok : Sound xs) (r : Found) (is : foundRow t r ≡ first (λ x. same (rowName x) (before 32 s)) (map spellingRow xs)) where
+  pub line-plain : r ≡ found.Nothing → line.Item (kind.Instr q) ≡ textLineCode (itemIn xs s) q
+  line-plain e =
+      rw (
+        item-first xs s (ok .0) (ok .1),
+        row-missed spellingRow (λ x. same (rowName x) (before 32 s)) isShort (names (before 32 s)) (row-named (before 32 s)) xs (ok .0) t r is e,
+      )
+      refl
 
-  pub line-plain : length xs ≤ i → line.Item (kind.Instr q) ≡ textLineCode (itemIn xs s) q
-  line-plain h = rw (placed, item-none xs i (endsLine s) h) refl
+  module _ (at : ℕ) (e : r ≡ found.At at) where
+    there : (x : Spelling) × (first (names (before 32 s)) xs ≡ some x) × (spellingRow x ≡ take 16 (drop at t))
+    there = row-found spellingRow (λ x. same (rowName x) (before 32 s)) isShort (names (before 32 s)) (row-named (before 32 s)) xs (ok .0) t r is at e
 
-  module _ (h : i < length xs) where
-    abbrev found : Spelling
-    found = getD xs i noSpelling
+    abbrev spelling : Spelling
+    spelling = there .0
 
-    rowed : (b : Bool) → endsLine s && eqb (getD t (i * 16 + 15) 0) 0 ≡ b → itemIn xs s ≡ cond (not b) (found .item) ordinary
-    rowed b e =
-        let bare : eqb (getD t (i * 16 + 15) 0) 0 ≡ not (found .bare) =
-        ap (λ (k : ℕ). eqb k 0) (column-of (λ (x : Spelling). cond (x .bare) 1 0) xs noSpelling 15 i t (table .bares) h) ∙ flag-back (found .bare) in
-        placed ∙ item-row xs i (endsLine s) h ∙ rw (rw bare at e) refl
+    abbrev columns : List ℕ
+    columns = itemNumber (spelling .item) ∷ cond (spelling .bare) 1 0 ∷ []
 
-    pub line-ended : endsLine s && eqb (getD t (i * 16 + 15) 0) 0 ≡ true → line.Item (kind.Instr q) ≡ textLineCode (itemIn xs s) q
-    line-ended e = rw (rowed true e) refl
+    fits : length (spelling .name) + length columns ≤ 16
+    fits = omega (arith, short-length spelling (first-meets isShort (names (before 32 s)) xs (ok .0) spelling (there .1) .0))
 
-    number-is : getD t (i * 16 + 14) 0 ≡ itemNumber (found .item)
-    number-is = column-of (λ (x : Spelling). itemNumber (x .item)) xs noSpelling 14 i t (table .kinds) h
+    pub line-room : at + 16 ≤ length t
+    line-room = made-room t (spelling .name) columns at fits (sym (there .2))
 
-    pub number-few : getD t (i * 16 + 14) 0 ≤ 9
-    number-few = rw number-is (number-small (found .item))
+    column : (i : ℕ) → i < 2 → getD t (at + (14 + i)) 0 ≡ getD columns i 0
+    column i h = made-read t (spelling .name) columns at fits (sym (there .2)) i h
 
-    module _ (e : endsLine s && eqb (getD t (i * 16 + 15) 0) 0 ≡ false) where
-      pub line-other : Named xs → getD t (i * 16 + 14) 0 ≡ 0 → line.Unsupported ≡ textLineCode (itemIn xs s) q
-      line-other named z = rw (rowed false e) (by (found .item) is (sym number-is ∙ z))
+    rowed : (b : Bool) → endsLine s && eqb (getD t (at + 15) 0) 0 ≡ b → itemIn xs s ≡ cond (not b) (spelling .item) ordinary
+    rowed b ends =
+        let bare : eqb (getD t (at + 15) 0) 0 ≡ not (spelling .bare) = ap (λ (k : ℕ). eqb k 0) (column 1 (omega arith)) ∙ flag-back (spelling .bare) in
+        item-first xs s (ok .0) (ok .1) ∙ ap (λ (o : Option Spelling). itemFound o (endsLine s)) (there .1) ∙ rw (rw bare at ends) refl
+
+    pub line-ended : endsLine s && eqb (getD t (at + 15) 0) 0 ≡ true → line.Item (kind.Instr q) ≡ textLineCode (itemIn xs s) q
+    line-ended ends = rw (rowed true ends) refl
+
+    number-is : getD t (at + 14) 0 ≡ itemNumber (spelling .item)
+    number-is = column 0 (omega arith)
+
+    pub number-few : getD t (at + 14) 0 ≤ 9
+    number-few = rw number-is (number-small (spelling .item))
+
+    module _ (ends : endsLine s && eqb (getD t (at + 15) 0) 0 ≡ false) where
+      pub line-other : Named xs → getD t (at + 14) 0 ≡ 0 → line.Unsupported ≡ textLineCode (itemIn xs s) q
+      line-other named z =
+          rw (rowed false ends)
+          (by (spelling .item) (first-meets (λ x. isNamed (x .item)) (names (before 32 s)) xs named spelling (there .1) .0) (sym number-is ∙ z))
         where
-          is : isNamed (found .item) ≡ true
-          is =
-              sym (List·getD-map (λ (x : Spelling). isNamed (x .item)) xs i noSpelling) ∙ ap (λ (l : List Bool). getD l i true) named
-              ∙ List·getD-map (λ (x : Spelling). true) xs i noSpelling
-
           by : (j : Item) → isNamed j ≡ true → itemNumber j ≡ 0 → line.Unsupported ≡ textLineCode j q
           by ordinary n z = absurd (false≢true n)
           by (pseudo p) n z = let o = item-told (some p) none z in cc
           by other n z = refl
 
-      pub line-pseudo : (getD t (i * 16 + 14) 0 ≡ 0 → ⊥) → (p : Pseudo) → pseudoKind p ≡ getD t (i * 16 + 14) 0
+      pub line-pseudo : (getD t (at + 14) 0 ≡ 0 → ⊥) → (p : Pseudo) → pseudoKind p ≡ getD t (at + 14) 0
           → line.Item (kind.Pseudo p q) ≡ textLineCode (itemIn xs s) q
-      line-pseudo n p z = rw (rowed false e) (by (found .item) (λ o. n (number-is ∙ o)) (z ∙ number-is))
+      line-pseudo n p z = rw (rowed false ends) (by (spelling .item) (λ o. n (number-is ∙ o)) (z ∙ number-is))
         where
           by : (j : Item) → (itemNumber j ≡ 0 → ⊥) → pseudoKind p ≡ itemNumber j → line.Item (kind.Pseudo p q) ≡ textLineCode j q
           by ordinary m z = absurd (m refl)

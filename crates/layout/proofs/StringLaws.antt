@@ -2,7 +2,7 @@
 use Prim.Native.Nat.{ℕ, suc, _+_, min, _≤_, _<_}
 use mathlib.Core.Path.{_≡_, refl, sym, ap, _∙_, subst}
 use mathlib.Core.List.{List, [], _∷_, _++_}
-use mathlib.Core.Bool.{Bool, true, false, cond, _&&_, _||_, true≢false}
+use mathlib.Core.Bool.{Bool, true, false, cond, not, _&&_, _||_, true≢false}
 use mathlib.Core.Option.{Option, none, some}
 use native.Mathlib.Omega.{arith}
 use lib.Dec.{ltb, eqb}
@@ -10,11 +10,12 @@ use lib.ListN.{length, take, drop, getD, length-drop}
 use lib.Seq.{take-take}
 use borrow.Author.Tests.{lt-ltb, le-ltb, ltb-true, ltb-false, eqb-true, eqb-false, ne-eqb}
 use Rattle.numbers.specs.Results.{Result, value, refused}
-use Rattle.numbers.specs.Text.{text, byte, trimmed, indexOf, before, startsWith}
+use Rattle.numbers.specs.Text.{text, byte, trimmed, indexOf, before, startsWith, same}
 use Rattle.numbers.specs.code.Spans.{trimSpan}
-use Rattle.numbers.proofs.Bools.{and-right}
+use Rattle.numbers.specs.code.Tables.{all}
+use Rattle.numbers.proofs.Bools.{and-left, and-right}
 use Rattle.numbers.proofs.Places.{index-within, index-found, index-take, before-length}
-use Rattle.numbers.proofs.Prefixes.{prefix-splits}
+use Rattle.numbers.proofs.Prefixes.{prefix-splits, same-equal}
 use Rattle.numbers.proofs.Trims.{trim-span-within, statement-within}
 use Rattle.layout.specs.declared.state.Section.{Section}
 use Rattle.layout.specs.declared.state.Section.the-variants as section
@@ -28,7 +29,6 @@ use Rattle.layout.specs.Statements.{Expr, OwnStatement, item, stores, st
 use Rattle.layout.specs.Statements.{isSectionLine, isAssignment, symbolAfter, equateOf, equOf, otherIn, assignmentOf, reservesIn, directiveIn}
 use Rattle.layout.specs.Statements.{onRow, unlabelledOf, Line, labelIn, afterLabel, labelled, beforeQuote, stringIn, stringOr, parsed}
 use Rattle.layout.specs.code.Steps.{Some}
-use Rattle.layout.specs.code.Fits.{Each}
 use Rattle.layout.specs.code.Rows.{rowCode, SpelledWithin}
 use Rattle.layout.specs.code.Cuts.{isText, isStringRow, toLineEnd}
 use Rattle.layout.proofs.DirectiveLaws.{directives-small, row-within}
@@ -257,19 +257,29 @@ module _ (l p : Piece) (k : isSectionLine (p .bytes) ≡ false) where
 
 -- ---- string directives
 
--- no row of a text that begins with none of their names
-no-row : (s : List ℕ) (rs : List Row) → Each (λ r. isText (r .directive) ≡ true → startsWith (r .name) s ≡ false) rs → isStringRow (rowIn rs s) ≡ false
-unfolding rowIn
-no-row s [] g = refl
-no-row s (r ∷ rs) g = by (startsWith (r .name) s) refl (no-row s rs (g .1))
-  where
-    none-there : (b : Bool) → isText (r .directive) ≡ b → startsWith (r .name) s ≡ true → b ≡ false
-    none-there true f e = absurd (true≢false (sym e ∙ g .0 f))
-    none-there false f e = refl
+-- their names
+abbrev isStringName : List ℕ → Bool
+isStringName n = same n (text ".ascii") || (same n (text ".asciz") || same n (text ".string"))
 
-    by : (b : Bool) → startsWith (r .name) s ≡ b → isStringRow (rowIn rs s) ≡ false → isStringRow (cond b (some r) (rowIn rs s)) ≡ false
-    by true e ih = none-there (isText (r .directive)) refl e
-    by false e ih = ih
+abbrev namedSo : Row → Bool
+namedSo r = not (isText (r .directive)) || isStringName (r .name)
+
+strings-named : all namedSo directives ≡ true
+unfolding all same directives
+strings-named = refl
+
+-- no row of a text that begins with none of them
+no-row : (s : List ℕ) → ((n : List ℕ) → isStringName n ≡ true → startsWith n s ≡ false) → (rs : List Row) → all namedSo rs ≡ true
+    → isStringRow (rowIn rs s) ≡ false
+unfolding rowIn all
+no-row s h [] g = refl
+no-row s h (r ∷ rs) g = by (startsWith (r .name) s) refl (isText (r .directive)) refl (and-left (namedSo r) (all namedSo rs) g) (no-row s h rs (and-right (namedSo r) (all namedSo rs) g))
+  where
+    by : (b : Bool) → startsWith (r .name) s ≡ b → (t : Bool) → isText (r .directive) ≡ t → not t || isStringName (r .name) ≡ true → isStringRow (rowIn rs s) ≡ false
+        → isStringRow (cond b (some r) (rowIn rs s)) ≡ false
+    by true e true f n ih = absurd (true≢false (sym e ∙ h (r .name) n))
+    by true e false f n ih = f
+    by false e t f n ih = ih
 
 -- they are these three
 pub begins-row : (s : List ℕ)
@@ -280,18 +290,18 @@ begins-row s = by (startsWith (text ".ascii") s) (startsWith (text ".asciz") s) 
     found : (name : List ℕ) → startsWith name s ≡ true → isStringRow (rowIn directives (name ++ drop (length name) s)) ≡ true → true ≡ isStringRow (rowIn directives s)
     found name e f = sym (subst (λ (x : List ℕ). isStringRow (rowIn directives x) ≡ true) (sym (prefix-splits name s e)) f)
 
-    other : {A : Type 0} → false ≡ true → A
-    other e = absurd (true≢false (sym e))
-
     by : (x y z : Bool) → startsWith (text ".ascii") s ≡ x → startsWith (text ".asciz") s ≡ y → startsWith (text ".string") s ≡ z
         → x || (y || z) ≡ isStringRow (rowIn directives s)
     by true y z e f g = found (text ".ascii") e refl
     by false true z e f g = found (text ".asciz") f refl
     by false false true e f g = found (text ".string") g refl
-    by false false false e f g =
-        sym
-        (no-row s directives
-        (other, (other, (other, (other, (other, (other, (other, (other, (other, (other, (other, (other, (other, (other, (other, (other, (other, (other, (other, (other, ((λ _. f), ((λ _. g), ((λ _. e), tt))))))))))))))))))))))))
+    by false false false e f g = sym (no-row s (λ n h. which n (same n (text ".ascii")) refl (same n (text ".asciz")) refl h) directives strings-named)
+      where
+        which : (n : List ℕ) (a : Bool) → same n (text ".ascii") ≡ a → (b : Bool) → same n (text ".asciz") ≡ b → a || (b || same n (text ".string")) ≡ true
+            → startsWith n s ≡ false
+        which n true p b q h = rw (same-equal n (text ".ascii") p) e
+        which n false p true q h = rw (same-equal n (text ".asciz") q) f
+        which n false p false q h = rw (same-equal n (text ".string") h) g
 
 -- ---- what stores no string
 

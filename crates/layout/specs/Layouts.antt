@@ -6,9 +6,8 @@ use mathlib.Core.Option.{Option, none, some}
 use lib.Dec.{ltb, eqb}
 use lib.ListN.{length, replicate}
 use lib.IntN.{ℤ}
-use Rattle.numbers.specs.Results.{Result, value, refused, andThen, mapped}
-use Rattle.encoder.specs.Encoding.{encoding}
-use Rattle.encoder.specs.declared.instruction.Instruction.{Instruction}
+use Rattle.numbers.specs.Results.{Result, value, refused, andThen}
+use Rattle.encoder.specs.Encoding.{encoded}
 use Rattle.layout.specs.declared.state.Section.the-variants as section
 use Rattle.layout.specs.declared.pseudo.Pseudo.{Pseudo}
 use Rattle.layout.specs.Bytes.{padded}
@@ -50,12 +49,8 @@ pub record Layout : Type 0 where
 
 -- ---- items to words
 
--- the instructions' words in order; the encoder refuses no expansion (`emission-refused`)
-unfoldable pub encoded : List Instruction → Result ℕ (List ℕ)
-encoded [] = value []
-encoded (i ∷ is) = andThen (encoding i) (λ w. mapped (λ ws. w ∷ ws) (encoded is))
-
--- "An ordinary instruction line yields an item and one text word 0"; a pseudo yields its expansion's words
+-- "An ordinary instruction line yields an item and one text word 0"; a pseudo yields its expansion's words, of which the encoder
+-- refuses none (`emission-refused`)
 abbrev pub emission : (List ℕ → Option ℤ) → (List ℕ → Option ℕ) → Option Pseudo → List ℕ → Result ℕ (List ℕ)
 emission const label none s = value (0 ∷ [])
 emission const label (some p) s = andThen (expansion const label p (pseudoOperands s)) encoded

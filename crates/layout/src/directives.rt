@@ -1,6 +1,7 @@
 // Directives: the table of their spellings, and zeros and alignments.
 use numbers::imm::parse_imm;
 use numbers::ints::Imm;
+use numbers::table::Found;
 use numbers::table::ROW;
 use numbers::table::SLOTS;
 use numbers::table::prefix_in;
@@ -69,38 +70,39 @@ const KIND: usize = 14;
 
 const IN_DATA: usize = 15;
 
-pub type Names = [u8; COUNT * ROW + SLOTS];
+pub type Names = [u8; SLOTS + 1 + COUNT * ROW];
 
-// A constant is built anew where it is used: the table is made once a call, and lent down. Behind the rows, the entry of
-// slot (second byte + 3 * third byte) % 64 is the first row whose name has that slot, and 255 where none has it.
+// A constant is built anew where it is used: the table is made once a call, and lent down. First, at which row each
+// slot's rows begin and where the last one's end; then the rows, slot by slot (`tools/table` prints it).
 pub const NAMES: Names = *b"\
-    .globl       \x06\x00\x01\
-    .global      \x07\x00\x01\
-    .type        \x05\x01\x01\
-    .size        \x05\x01\x01\
-    .file        \x05\x01\x01\
-    .ident       \x06\x01\x01\
-    .option      \x07\x01\x01\
-    .attribute   \x0a\x01\x01\
-    .cfi_        \x05\x01\x01\
-    .equ         \x04\x02\x01\
-    .set         \x04\x02\x01\
-    .align       \x06\x03\x01\
+    \x00\x00\x00\x00\x01\x02\x02\x02\x02\x02\x03\x03\x04\x04\x05\x05\
+    \x06\x06\x06\x06\x06\x06\x08\x08\x08\x08\x08\x08\x08\x08\x08\x08\
+    \x09\x09\x0a\x0b\x0b\x0b\x0c\x0c\x0c\x0c\x0d\x0e\x10\x10\x10\x11\
+    \x11\x11\x11\x11\x11\x12\x12\x12\x12\x13\x13\x15\x15\x15\x16\x16\
+    \x17\
     .space       \x06\x04\x01\
-    .zero        \x05\x04\x01\
-    .skip        \x05\x04\x00\
-    .byte        \x05\x05\x01\
-    .half        \x05\x06\x01\
     .word        \x05\x07\x01\
     .dword       \x06\x08\x01\
-    .float       \x06\x09\x01\
-    .asciz       \x06\x0a\x01\
+    .half        \x05\x06\x01\
+    .byte        \x05\x05\x01\
     .string      \x07\x0a\x01\
+    .ident       \x06\x01\x01\
+    .cfi_        \x05\x01\x01\
+    .type        \x05\x01\x01\
+    .file        \x05\x01\x01\
+    .set         \x04\x02\x01\
+    .align       \x06\x03\x01\
+    .zero        \x05\x04\x01\
+    .float       \x06\x09\x01\
+    .globl       \x06\x00\x01\
+    .global      \x07\x00\x01\
+    .size        \x05\x01\x01\
+    .skip        \x05\x04\x00\
+    .equ         \x04\x02\x01\
+    .asciz       \x06\x0a\x01\
     .ascii       \x06\x0b\x01\
-    \xff\xff\xff\x0c\x11\xff\xff\xff\xff\x12\xff\x10\xff\x0f\xff\x15\
-    \xff\xff\xff\xff\xff\x05\xff\xff\xff\xff\xff\xff\xff\xff\xff\x02\
-    \xff\x04\x0a\xff\xff\x0b\xff\xff\xff\x0d\x13\x00\xff\xff\x03\xff\
-    \xff\xff\xff\xff\x0e\xff\xff\xff\x09\xff\x14\xff\xff\x07\xff\x06";
+    .attribute   \x0a\x01\x01\
+    .option      \x07\x01\x01";
 
 // What a number in a row says.
 fn directive_numbered(kind: u8) -> Directive
@@ -131,11 +133,9 @@ pub fn directive_of(names: &Names, s: &[u8]) -> Spelled
     if !first_is(s, b'.') {
         return Spelled::Nothing;
     }
-    let row = prefix_in(names, COUNT, s);
-    if COUNT <= row {
+    let Found::At(at) = prefix_in(names, s) else {
         return Spelled::Nothing;
-    }
-    let at = row * ROW;
+    };
     Spelled::As(Spelling {
         directive: directive_numbered(names[at + KIND]),
         len: names[at + LENGTH] as usize,

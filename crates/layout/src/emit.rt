@@ -1,8 +1,8 @@
 // Items to words: what an item emits, into the part of the words that it is lent.
 use crate::addresses::Starts;
-use crate::expansions::Expansion;
-use crate::expansions::Slot;
-use crate::expansions::expand;
+use crate::expansions::LookedUp;
+use crate::expansions::build;
+use crate::expansions::look_up;
 use crate::pseudo::LineKind;
 use crate::pseudo::Pseudo;
 use crate::pseudo::item_kind;
@@ -11,82 +11,46 @@ use crate::records::get_item;
 use crate::records::put_item;
 use crate::state::Count;
 use crate::state::Total;
-use encoder::Encoded;
-use encoder::encode;
+use crate::wanted::wanted_by;
+use encoder::sequences::Expansion;
+use encoder::sequences::Put;
+use encoder::sequences::put_words;
 use numbers::text::Span;
 use numbers::text::span_bytes;
 ghost use mathlib.Core.Path.{_≡_};
 ghost use mathlib.Core.List.{[], _∷_};
 ghost use mathlib.Core.Option.{Option, some};
-ghost use Prim.Native.Nat.{_≤_, _<_};
+ghost use Prim.Native.Nat.{_≤_};
 ghost use lib.ListN.{length};
-ghost use Rattle.numbers.specs.Results.{value, andThen};
+ghost use Rattle.numbers.specs.Results.{value};
 ghost use Rattle.numbers.specs.code.Spans.{spanned};
-ghost use Rattle.encoder.specs.Encoding.{encoding};
-ghost use Rattle.encoder.specs.code.Meanings.{encodedResult};
+ghost use Rattle.encoder.specs.Encoding.{encoded};
+ghost use Rattle.encoder.specs.code.Slots.{longest, instructionsIn, Puts};
 ghost use Rattle.layout.specs.declared.pseudo.Pseudo as code;
 ghost use Rattle.layout.specs.Pseudos.{itemKind, pseudoWords, reservedWords};
-ghost use Rattle.layout.specs.Layouts.{encoded};
 ghost use Rattle.layout.specs.code.Steps.{Some};
 ghost use Rattle.layout.specs.code.Kinds.{kindItem, kindSource};
 ghost use Rattle.layout.specs.code.Names.{NamesReady, NamesKnown};
-ghost use Rattle.layout.specs.code.Expands.{longest, slotAt, slotsFrom, expandedOf, emissionIn, CountFits, Puts, sourceSpan, ItemRecordFits};
+ghost use Rattle.layout.specs.code.Stands.{countOf};
+ghost use Rattle.layout.specs.code.Expands.{emissionIn, sourceSpan, ItemRecordFits};
 ghost use Rattle.layout.specs.code.Emits.{EmitReady, Emits};
 
-fn slot_word(slot: Slot) -> Encoded
-    ensures { λ r. ⌜ encodedResult r ≡ encoding (slot .inst) ⌝ }
-{
-    let inst = slot.inst;
-    encode(inst)
-}
-
-// The word of an expansion's kth instruction.
-fn word_at(e: Expansion, k: usize) -> Encoded
-    requires { ⌜ k < longest ⌝ }
-    ensures { λ r. ⌜ encodedResult r ≡ encoding (slotAt (e .slots) k) ⌝ }
-{
-    slot_word(e.slots[k])
-}
-
-// The words of so many of its instructions, in order. The encoder refuses none of them (`emission-refused`).
-fn put_words(dst: &mut [u32], e: Expansion, n: usize) -> Count
-    requires { ⌜ (n ≤ longest) × (n ≤ length (now dst)) ⌝ }
-    ensures { λ r. ⌜ Puts dst r (encoded (slotsFrom (e .slots) 0 n)) ⌝ }
-{
-    let mut k = 0;
-    while k < n {
-        match word_at(e, k) {
-            Encoded::Word(word) => {
-                dst[k] = word;
-                k += 1;
-            }
-            Encoded::BadRegister => {
-                return Count::Stop(22);
-            }
-            Encoded::BadField => {
-                return Count::Stop(23);
-            }
-        }
-    }
-    Count::Now(n)
-}
-
-// The words of an expansion, or its refusal.
+// The words of an expansion. Of a pseudo's the encoder refuses none (`emission-refused`).
 fn put_expansion(dst: &mut [u32], e: Expansion) -> Count
-    requires { ⌜ CountFits (length (now dst)) (e .count) ⌝ }
-    ensures { λ r. ⌜ Puts dst r (andThen (expandedOf e) encoded) ⌝ }
+    requires { ⌜ (e .count ≤ longest) × (e .count ≤ length (now dst)) ⌝ }
+    ensures { λ r. ⌜ Puts dst (countOf r) (encoded (instructionsIn e)) ⌝ }
 {
-    let count = e.count;
-    match count {
-        Count::Now(n) => put_words(dst, e, n),
-        Count::Stop(number) => Count::Stop(number),
+    match put_words(dst, e) {
+        Put::Words(n) => Count::Now(n),
+        Put::BadRegister => Count::Stop(22),
+        Put::BadField => Count::Stop(23),
     }
 }
 
 // The one word of an ordinary line.
 fn put_ordinary(dst: &mut [u32]) -> Count
     requires { ⌜ 1 ≤ length (now dst) ⌝ }
-    ensures { λ r. ⌜ Puts dst r (value (0 ∷ [])) ⌝ }
+    ensures { λ r. ⌜ Puts dst (countOf r) (value (0 ∷ [])) ⌝ }
 {
     dst[0] = 0;
     Count::Now(1)
@@ -108,9 +72,9 @@ fn emit_pseudo(
     requires { ⌜ NamesReady text labels «label_index» «label_count» equates «equate_index» «equate_count»
         × (pseudoWords «pseudo» (now s) ≤ length (now dst)) ⌝ }
     ensures { λ r. ⌜ NamesKnown text labels «label_index» «label_count» equates «equate_index» «equate_count»
-        (λ names. Puts dst r (emissionIn names (some «pseudo») (now (s .entry)))) ⌝ }
+        (λ names. Puts dst (countOf r) (emissionIn names (some «pseudo») (now (s .entry)))) ⌝ }
 {
-    let expansion = expand(
+    match look_up(
         text,
         labels,
         label_index,
@@ -118,10 +82,12 @@ fn emit_pseudo(
         equates,
         equate_index,
         equate_count,
-        pseudo,
         s,
-    );
-    put_expansion(dst, expansion)
+        wanted_by(pseudo, s),
+    ) {
+        LookedUp::As(arguments) => put_expansion(dst, build(pseudo, arguments)),
+        LookedUp::Refused(number) => Count::Stop(number),
+    }
 }
 
 // The words of a line by its kind: how many they are, or a refusal's number.
@@ -139,7 +105,7 @@ fn emit_line(
     requires { ⌜ NamesReady text labels «label_index» «label_count» equates «equate_index» «equate_count»
         × (reservedWords (kindItem kind) (spanned (now text) (kindSource kind)) ≤ length (now dst)) ⌝ }
     ensures { λ r. ⌜ NamesKnown text labels «label_index» «label_count» equates «equate_index» «equate_count»
-        (λ names. Puts dst r (emissionIn names (kindItem kind) (spanned (now (text .entry)) (kindSource kind)))) ⌝ }
+        (λ names. Puts dst (countOf r) (emissionIn names (kindItem kind) (spanned (now (text .entry)) (kindSource kind)))) ⌝ }
 {
     match kind {
         LineKind::Instr(_) => put_ordinary(dst),
@@ -174,7 +140,7 @@ fn emit_item(
         × Some (ItemRecordFits (now text) (length (now dst)) item) ⌝ }
     ensures { λ r. ⌜ NamesKnown text labels «label_index» «label_count» equates «equate_index» «equate_count»
         (λ names. (x : Option code.Pseudo) → item .kind ≡ itemKind x
-        → Puts dst r (emissionIn names x (spanned (now (text .entry)) (sourceSpan item)))) ⌝ }
+        → Puts dst (countOf r) (emissionIn names x (spanned (now (text .entry)) (sourceSpan item)))) ⌝ }
 {
     let source = Span {
         start: item.start as usize,

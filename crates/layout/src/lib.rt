@@ -26,4 +26,5 @@ mod stage;
 mod state;
 mod symbols;
 mod tokens;
+mod wanted;
 mod writers;

@@ -5,6 +5,7 @@ use numbers::ints::Imm;
 use numbers::ints::in_signed12;
 use numbers::operands::Operand;
 use numbers::operands::item_operand_at;
+use numbers::table::Found;
 use numbers::table::ROW;
 use numbers::table::SLOTS;
 use numbers::table::word_in;
@@ -51,35 +52,36 @@ const KIND: usize = 14;
 
 const BARE: usize = 15;
 
-pub type Names = [u8; COUNT * ROW + SLOTS];
+pub type Names = [u8; SLOTS + 1 + COUNT * ROW];
 
-// A constant is built anew where it is used: the table is made once a call, and lent down. Behind the rows, the entry of
-// slot (first byte + 3 * last byte + 5 * length) % 64 is the row whose name has that slot, and 255 where none has it.
+// A constant is built anew where it is used: the table is made once a call, and lent down. First, at which row each
+// slot's rows begin and where the last one's end; then the rows, slot by slot (`tools/table` prints it).
 pub const NAMES: Names = *b"\
-    li            \x01\x00\
-    la            \x02\x00\
-    push          \x03\x00\
-    pop           \x04\x00\
-    print         \x05\x01\
-    print_str     \x06\x01\
-    printStr      \x06\x01\
-    printString   \x06\x01\
+    \x00\x01\x01\x01\x01\x01\x01\x02\x03\x04\x05\x05\x06\x07\x08\x09\
+    \x09\x09\x09\x09\x09\x09\x09\x09\x09\x09\x0a\x0a\x0a\x0b\x0b\x0c\
+    \x0c\x0c\x0c\x0c\x0d\x0d\x0d\x0e\x0e\x0e\x0e\x0e\x0e\x0e\x0e\x0e\
+    \x0e\x0f\x0f\x0f\x10\x11\x12\x13\x13\x13\x13\x14\x14\x14\x14\x14\
+    \x14\
     print_str_ln  \x00\x01\
-    printStrLn    \x00\x01\
-    read          \x07\x01\
-    read_byte     \x08\x01\
-    readByte      \x08\x01\
-    read_half     \x00\x01\
-    readHalf      \x00\x01\
-    read_word     \x00\x01\
+    la            \x02\x00\
     readWord      \x00\x01\
-    random        \x09\x01\
-    random_bytes  \x00\x00\
+    readByte      \x08\x01\
+    readHalf      \x00\x01\
+    push          \x03\x00\
+    read_word     \x00\x01\
+    read_byte     \x08\x01\
+    read_half     \x00\x01\
     randomBytes   \x00\x00\
-    \xff\xff\x13\xff\xff\xff\x10\x12\xff\x0c\xff\x0f\x0e\xff\x0b\x03\
-    \xff\x0d\xff\xff\xff\xff\xff\x11\xff\x01\xff\xff\x07\xff\xff\xff\
-    \xff\xff\xff\xff\xff\x04\xff\xff\xff\xff\xff\xff\x09\xff\x06\xff\
-    \xff\x00\x0a\x05\xff\xff\x08\xff\xff\xff\xff\xff\x02\xff\xff\xff";
+    pop           \x04\x00\
+    random_bytes  \x00\x00\
+    print         \x05\x01\
+    li            \x01\x00\
+    printStr      \x06\x01\
+    read          \x07\x01\
+    printString   \x06\x01\
+    print_str     \x06\x01\
+    printStrLn    \x00\x01\
+    random        \x09\x01";
 
 // The pseudo of a kind.
 fn pseudo_numbered(kind: u8) -> Pseudo
@@ -124,11 +126,9 @@ fn listed_kind(names: &Names, text: &[u8], source: Span) -> TextLine
 {
     let s = span_bytes(text, source);
     let word = text_before(s, b' ');
-    let row = word_in(names, COUNT, word);
-    if COUNT <= row {
+    let Found::At(at) = word_in(names, word) else {
         return TextLine::Item(LineKind::Instr(source));
-    }
-    let at = row * ROW;
+    };
     if (s.len() <= word.len()) & (names[at + BARE] == 0) {
         return TextLine::Item(LineKind::Instr(source));
     }

@@ -1,13 +1,11 @@
 -- What the code's answers about a line of the text section mean.
 use Prim.Native.Nat.{ℕ}
-use mathlib.Core.Path.{_≡_}
-use mathlib.Core.List.{List, map}
-use mathlib.Core.Bool.{Bool, true, cond, _||_}
+use mathlib.Core.List.{List, [], _∷_, map}
+use mathlib.Core.Bool.{Bool, cond, _||_}
 use mathlib.Core.Option.{Option, none, some}
-use lib.ListN.{length}
 use Rattle.numbers.specs.declared.text.Span.{Span}
 use Rattle.numbers.specs.Text.{text, startsWith}
-use Rattle.numbers.specs.code.Tables.{rows, column, slotsBehind, slotted}
+use Rattle.numbers.specs.code.Tables.{rowOf, slotOf, TableOf}
 use Rattle.layout.specs.declared.pseudo.Pseudo.{Pseudo}
 use Rattle.layout.specs.declared.pseudo.LineKind.{LineKind}
 use Rattle.layout.specs.declared.pseudo.LineKind.the-variants as kind
@@ -22,17 +20,13 @@ itemNumber ordinary = 0
 itemNumber (pseudo p) = pseudoKind p
 itemNumber other = 0
 
--- a table that is lent: the names of xs, in the last two bytes of each row what it names and whether it may end the line, and behind the
--- rows slots by which a word's row is found
-pub record SpellingTable (xs : List Spelling) (t : List ℕ) : Type 0 where
-  pub names : rows (length xs) t ≡ map (λ x. x .name) xs
-  pub kinds : column 14 (length xs) t ≡ map (λ x. itemNumber (x .item)) xs
-  pub bares : column 15 (length xs) t ≡ map (λ x. cond (x .bare) 1 0) xs
-  pub slots : slotted (slotsBehind (length xs) t) 0 (rows (length xs) t) ≡ true
+-- a spelling's row: its name, what it names and whether it may end the line
+abbrev pub spellingRow : Spelling → List ℕ
+spellingRow x = rowOf (x .name) (itemNumber (x .item) ∷ cond (x .bare) 1 0 ∷ [])
 
--- the table of all spellings
+-- the table of all spellings, which is lent
 abbrev pub PseudoNames : List ℕ → Type 0
-PseudoNames t = SpellingTable spellings t
+PseudoNames t = TableOf slotOf (map spellingRow spellings) t
 
 -- the first letters of all spellings
 abbrev pub beginsAsPseudo : List ℕ → Bool

@@ -1,12 +1,11 @@
 -- The rows of the table of directives as the code has them, and its answers about zeros.
 use Prim.Native.Nat.{ℕ, zero, suc, _≤_}
-use mathlib.Core.Path.{_≡_}
-use mathlib.Core.List.{List, map}
-use mathlib.Core.Bool.{true, cond}
+use mathlib.Core.List.{List, [], _∷_, map}
+use mathlib.Core.Bool.{cond}
 use mathlib.Core.Option.{Option, none, some}
 use lib.ListN.{length}
 use Rattle.numbers.specs.Results.{Result, value, refused}
-use Rattle.numbers.specs.code.Tables.{rows, column, slotsBehind, started}
+use Rattle.numbers.specs.code.Tables.{rowOf, prefixSlot, TableOf}
 use Rattle.layout.specs.declared.directives.Width.the-variants.{Byte, Half, Word, Dword}
 use Rattle.layout.specs.declared.directives.Reserve.the-variants.{Space, Align}
 use Rattle.layout.specs.declared.directives.Store.{Store}
@@ -39,18 +38,13 @@ directiveNumber (Stores (Text zero)) = 11
 directiveNumber (Stores (Text (suc zero))) = 10
 directiveNumber (Stores (Text (suc (suc z)))) = 12
 
--- a table that is lent: the names of rs, in the last three bytes of each row how long its name is, what it is and whether the data
--- section has it, and behind the rows slots by which a text's row is found
-pub record DirectiveTable (rs : List Row) (t : List ℕ) : Type 0 where
-  pub names : rows (length rs) t ≡ map (λ r. r .name) rs
-  pub lengths : column 13 (length rs) t ≡ map (λ r. length (r .name)) rs
-  pub kinds : column 14 (length rs) t ≡ map (λ r. directiveNumber (r .directive)) rs
-  pub dataHas : column 15 (length rs) t ≡ map (λ r. cond (r .inData) 1 0) rs
-  pub slots : started (slotsBehind (length rs) t) 0 (rows (length rs) t) ≡ true
+-- a directive's row: its name, how long that is, what it is and whether the data section has it
+abbrev pub directiveRow : Row → List ℕ
+directiveRow r = rowOf (r .name) (length (r .name) ∷ directiveNumber (r .directive) ∷ cond (r .inData) 1 0 ∷ [])
 
--- the table of all directives
+-- the table of all directives, which is lent
 abbrev pub DirectiveNames : List ℕ → Type 0
-DirectiveNames t = DirectiveTable directives t
+DirectiveNames t = TableOf prefixSlot (map directiveRow directives) t
 
 abbrev pub rowCode : Option Row → Spelled
 rowCode none = spelled.Nothing

@@ -8,18 +8,20 @@ use mir.Facts.{toZ-ofZ}
 use Rattle.numbers.specs.Ints.{isSigned32}
 use Rattle.numbers.proofs.Integers.{signed32-fits}
 use Rattle.numbers.proofs.SpacedNumbers.{quote-spaced}
+use Rattle.layout.specs.Expansions.{liConstant}
 use Rattle.layout.specs.code.Names.{valueOf}
 use borrow.Author.Needs.{needs}
 use Rattle.layout.proofs.expansions.li_constant.Statement.{statement}
 use Rattle.layout.proofs.expansions.li_constant.Tie as tie
 
 returns : tie.Need-returns
-returns c = λ ks table f. rw (quote-spaced _ ∙ sym (c .before .first-is .ensures) ∙ c .if1 .taken) refl
+returns c = λ ks table. rw (liConstant, quote-spaced _ ∙ sym (c .before .first-is .ensures) ∙ c .if1 .taken) refl
 
 returns-2 : tie.Need-returns-2
 returns-2 c =
     let named = c .before .before .before in
-    λ ks table f. rw (
+    λ ks table. rw (
+      liConstant,
       quote-spaced _ ∙ sym (named .before .first-is .ensures) ∙ named .if1 .left,
       sym (c .before .before .operand-constant .ensures ks table) ∙ ap valueOf (c .enum-told .given .1),
     )
@@ -43,7 +45,8 @@ returns-3 : tie.Need-returns-3
 returns-3 c =
     let small = tested (c .before) true (c .if2 .taken) in
     let named = c .before .before .before .before .before .before in
-    λ ks table f. rw (
+    λ ks table. rw (
+      liConstant,
       read (c .before),
       toZ-ofZ (signed32-fits (v (c .before)) small),
       quote-spaced _ ∙ sym (named .before .first-is .ensures) ∙ named .if1 .left,
@@ -55,7 +58,8 @@ returns-3 c =
 returns-4 : tie.Need-returns-4
 returns-4 c =
     let named = c .before .before .before .before .before .before in
-    λ ks table f. rw (
+    λ ks table. rw (
+      liConstant,
       quote-spaced _ ∙ sym (named .before .first-is .ensures) ∙ named .if1 .left,
       sym (c .before .before .before .before .before .operand-constant .ensures ks table) ∙ ap valueOf (c .before .before .before .v .given .1),
       tested (c .before) false (c .if2 .left),

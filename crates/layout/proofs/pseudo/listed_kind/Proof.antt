@@ -1,69 +1,84 @@
 -- `pseudo::listed_kind`: the row that is found, by the columns of the table that is lent.
+use Prim.Native.Nat.{ℕ, _+_, _≤_}
 use mathlib.Core.Path.{_≡_}
+use mathlib.Core.List.{map}
 use native.Mathlib.Omega.{arith}
 use lib.ListN.{length}
 use denote.Ref.{now}
-use Rattle.numbers.specs.Text.{before}
+use Rattle.numbers.specs.declared.table.Found.the-variants.{At}
+use Rattle.numbers.specs.Text.{same, before}
 use Rattle.numbers.specs.code.Spans.{spanned}
-use Rattle.numbers.specs.code.Tables.{rows, indexIn}
+use Rattle.numbers.specs.code.Tables.{rowName, first, foundRow}
 use Rattle.numbers.proofs.Rows.{before-word}
 use Rattle.layout.specs.Pseudos.{spellings}
-use Rattle.layout.proofs.PseudoLaws.{spellings-sound, spellings-named, number-few, line-plain, line-ended, line-other, line-pseudo}
+use Rattle.layout.specs.code.Kinds.{spellingRow}
+use Rattle.layout.proofs.PseudoLaws.{spellings-sound, spellings-named, line-room, number-few, line-plain, line-ended, line-other, line-pseudo}
 use borrow.Author.Needs.{needs}
 use Rattle.layout.proofs.pseudo.listed_kind.Statement.{statement}
 use Rattle.layout.proofs.pseudo.listed_kind.Tie as tie
 
-placed : (d : tie.After-word-in) → d .word-in .result
-    ≡ indexIn (rows (length spellings) (now (d .before .before .before .before .before .args .names)))
-    (before 32 (spanned (now (d .before .before .before .before .before .args .text)) (d .before .before .before .before .before .args .source)))
-unfolding spellings
-placed d = rw (d .before .before .text-before .ensures, d .before .before .before .span-bytes .ensures) at (d .word-in .ensures)
-
 word-in-requires : tie.Need-word-in-requires
-unfolding spellings
-word-in-requires c κs = (omega arith, rw (c .before .text-before .ensures) (before-word _), c .before .before .before .before .pre .slots)
+word-in-requires c κs = (record { rs = map spellingRow spellings; table = c .before .before .before .before .pre }, rw (c .before .text-before .ensures) (before-word _))
+
+-- what is found, and that it lies in the table
+found : (d : tie.After-word-in) → foundRow (now (d .before .before .before .before .before .args .names)) (d .word-in .result)
+    ≡ first (λ x. same (rowName x) (before 32 (spanned (now (d .before .before .before .before .before .args .text)) (d .before .before .before .before .before .args .source)))) (map spellingRow spellings)
+found d =
+    rw (d .before .before .text-before .ensures, d .before .before .before .span-bytes .ensures) at
+    (d .word-in .ensures (map spellingRow spellings) (d .before .before .before .before .before .pre))
+
+room : (d : tie.After-word-in) (at : ℕ) → d .word-in .result ≡ At at → at + 16 ≤ length (now (d .before .before .before .before .before .args .names))
+room d =
+    let a = d .before .before .before .before .before .args in
+    line-room (a .source) spellings (now (a .names)) (spanned (now (a .text)) (a .source)) spellings-sound (d .word-in .result) (found d)
 
 returns : tie.Need-returns
-unfolding spellings
 returns c =
-    let o = c .before .before .before .before .before .before in
-    line-plain (o .args .source) spellings _ _ (o .pre) spellings-sound _ (placed (c .before)) (c .if1 .taken)
+    let p = c .before .before in
+    let a = p .before .before .before .before .before .args in
+    line-plain (a .source) spellings (now (a .names)) (spanned (now (a .text)) (a .source)) spellings-sound (p .word-in .result) (found p) (c .enum-told .given .1)
+
+add-if1 : tie.Need-add-if1
+add-if1 c = omega (arith, room (c .before .before .before) _ (c .before .at .given .1))
+
+element-copy-out-if1 : tie.Need-element-copy-out-if1
+element-copy-out-if1 c = omega (arith, room (c .before .before .before) _ (c .before .at .given .1))
 
 returns-2 : tie.Need-returns-2
-unfolding spellings
 returns-2 c =
-    let at = c .before .before .before in
-    let o = at .before .before .before .before .before in
-    let ends = rw (at .before .before .text-before .ensures, at .before .before .before .span-bytes .ensures) at (c .if2 .taken) in
-    line-ended (o .args .source) spellings _ _ (o .pre) spellings-sound _ (placed at) (c .before .before .if1 .left) ends
+    let p = c .before .before .before .before .before in
+    let a = p .before .before .before .before .before .args in
+    let ends = rw (p .before .before .text-before .ensures, p .before .before .before .span-bytes .ensures) at (c .if1 .taken) in
+    line-ended (a .source) spellings (now (a .names)) (spanned (now (a .text)) (a .source)) spellings-sound (p .word-in .result) (found p) _ (c .before .before .before .at .given .1) ends
+
+add-kind : tie.Need-add-kind
+add-kind c = omega (arith, room (c .before .before .before .before .before) _ (c .before .before .before .at .given .1))
+
+element-copy-out-kind : tie.Need-element-copy-out-kind
+element-copy-out-kind c = omega (arith, room (c .before .before .before .before .before) _ (c .before .before .before .at .given .1))
 
 returns-3 : tie.Need-returns-3
-unfolding spellings
 returns-3 c =
-    let tested = c .before .before in
-    let at = tested .before .before .before in
-    let o = at .before .before .before .before .before in
-    let goes-on = rw (at .before .before .text-before .ensures, at .before .before .before .span-bytes .ensures) at (tested .if2 .left) in
-    line-other (o .args .source) spellings _ _ (o .pre) spellings-sound _ (placed at) (tested .before .before .if1 .left) goes-on spellings-named (c .if3 .taken)
+    let p = c .before .before .before .before .before .before .before in
+    let a = p .before .before .before .before .before .args in
+    let goes-on = rw (p .before .before .text-before .ensures, p .before .before .before .span-bytes .ensures) at (c .before .before .if1 .left) in
+    line-other (a .source) spellings (now (a .names)) (spanned (now (a .text)) (a .source)) spellings-sound (p .word-in .result) (found p) _ (c .before .before .before .before .before .at .given .1) goes-on
+    spellings-named (c .if2 .taken)
 
 pseudo-numbered-requires : tie.Need-pseudo-numbered-requires
-unfolding spellings
 pseudo-numbered-requires c κs =
-    let tested = c .before .before in
-    let at = tested .before .before .before in
-    let o = at .before .before .before .before .before in
-    let few = number-few (o .args .source) spellings _ _ (o .pre) spellings-sound _ (placed at) (tested .before .before .if1 .left) in
-    (omega (arith, c .if3 .left), few)
+    let p = c .before .before .before .before .before .before .before in
+    let a = p .before .before .before .before .before .args in
+    let few = number-few (a .source) spellings (now (a .names)) (spanned (now (a .text)) (a .source)) spellings-sound (p .word-in .result) (found p) _ (c .before .before .before .before .before .at .given .1) in
+    (omega (arith, c .if2 .left), few)
 
 returns-4 : tie.Need-returns-4
-unfolding spellings
 returns-4 c =
-    let tested = c .before .before .before in
-    let at = tested .before .before .before in
-    let o = at .before .before .before .before .before in
-    let goes-on = rw (at .before .before .text-before .ensures, at .before .before .before .span-bytes .ensures) at (tested .if2 .left) in
-    line-pseudo (o .args .source) spellings _ _ (o .pre) spellings-sound _ (placed at) (tested .before .before .if1 .left) goes-on (c .before .if3 .left)
-    _ (c .pseudo-numbered .ensures)
+    let p = c .before .before .before .before .before .before .before .before in
+    let a = p .before .before .before .before .before .args in
+    let goes-on = rw (p .before .before .text-before .ensures, p .before .before .before .span-bytes .ensures) at (c .before .before .before .if1 .left) in
+    line-pseudo (a .source) spellings (now (a .names)) (spanned (now (a .text)) (a .source)) spellings-sound (p .word-in .result) (found p) _ (c .before .before .before .before .before .before .at .given .1) goes-on
+    (c .before .if2 .left) _ (c .pseudo-numbered .ensures)
 
 pub listed-kind-spec : {M : Type 1} → statement M
 listed-kind-spec =
@@ -72,13 +87,14 @@ listed-kind-spec =
     (λ c κs. search needs)  -- span-bytes-requires
     (λ c κs. search needs)  -- text-before-requires
     word-in-requires
+    (λ c. search needs)  -- enum-known-at
+    (λ c. search needs)  -- enum-told
     returns
-    (λ c. search needs)  -- mul-at
-    (λ c. search needs)  -- add-if2
-    (λ c. search needs)  -- element-copy-out-if2
+    add-if1
+    element-copy-out-if1
     returns-2
-    (λ c. search needs)  -- add-kind
-    (λ c. search needs)  -- element-copy-out-kind
+    add-kind
+    element-copy-out-kind
     returns-3
     pseudo-numbered-requires
     returns-4)

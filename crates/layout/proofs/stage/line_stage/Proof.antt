@@ -4,7 +4,7 @@ use mathlib.Core.Path.{_≡_, refl, ap, _∙_}
 use mathlib.Core.Logic.{⊎-elim}
 use native.Mathlib.Omega.{arith}
 use lib.ListN.{length}
-use Rattle.numbers.specs.code.Tables.{rows, rowName, column, slotOf, slotted, prefixSlot, started}
+use Rattle.numbers.specs.code.Tables.{rowOf, rowName, slotOf, prefixSlot, slotRows, joined, rowsFrom, startsFrom, tableOf, all}
 use Rattle.layout.specs.Pseudos.{spellings}
 use Rattle.layout.specs.Directives as table
 use Rattle.layout.specs.code.Kinds.{PseudoNames}
@@ -29,10 +29,10 @@ abbrev μ-loop : tie.MeasureT-loop
 μ-loop text labels₀ index₀ equates₀ exprs₀ items₀ data-bytes₀ label-words₀ room directives pseudos st₀ at₀ line₀ labels index equates exprs items data-bytes label-words st at line = length text - at
 
 loop-holds : tie.Need-loop-holds Inv-loop μ-loop
-unfolding spellings table.directives rows rowName column slotOf slotted prefixSlot started
+unfolding spellings table.directives rowOf rowName slotOf prefixSlot slotRows joined rowsFrom startsFrom tableOf all
 loop-holds c =
-    let directives : DirectiveNames _ = record { names = refl; lengths = refl; kinds = refl; dataHas = refl; slots = refl } in
-    let pseudos : PseudoNames _ = record { names = refl; kinds = refl; bares = refl; slots = refl } in
+    let directives : DirectiveNames _ = record { each = refl; is = refl } in
+    let pseudos : PseudoNames _ = record { each = refl; is = refl } in
     (head-first _ _ _ (c .before .before .before .before .before .before .before .before .pre .1), refl, refl, refl, refl, refl, refl, refl, directives, pseudos)
 
 step-line-requires : tie.Need-step-line-requires Inv-loop μ-loop

@@ -1,0 +1,15 @@
+-- `sequences::addi`: its number is passed on as it is.
+use mir.Facts.{toZ-ofZ}
+use borrow.Author.Needs.{needs}
+use Rattle.encoder.proofs.sequences.addi.Statement.{statement}
+use Rattle.encoder.proofs.sequences.addi.Tie as tie
+
+returns : tie.Need-returns
+returns c = rw (toZ-ofZ (c .before .fits .imm)) at (c .with .ensures)
+
+pub addi-spec : {M : Type 1} → statement M
+addi-spec =
+    tie.close
+    (tie.spec
+    (λ c κs. search needs)  -- with-requires
+    returns)
