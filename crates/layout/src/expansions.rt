@@ -92,8 +92,8 @@ fn li_constant(text: &[u8], equates: &[u8], index: &[u16], count: usize, operand
     Imm::Invalid
 }
 
-// What the instructions are made of: a register and 32 bits, those of an address or of a number; or a register and a number that a
-// single addi loads.
+// What the instructions are made of: a register, x0 where the operands name none, and 32 bits, those of an address or of a
+// number, 0 where there is neither; or a register and a number that a single addi loads.
 pub enum Arguments {
     Word(Register, u32),
     Single(Register, i32),
@@ -172,16 +172,14 @@ pub fn look_up(
     match wanted {
         Wanted::Register(rd) => LookedUp::As(Arguments::Word(rd, 0)),
         Wanted::Number(rd, v) => LookedUp::As(number_arguments(rd, v)),
-        Wanted::Equate(rd, name) => {
-            equate_arguments(
-                text,
-                equates,
-                equate_index,
-                equate_count,
-                rd,
-                span_bytes(s, name),
-            )
-        }
+        Wanted::Equate(rd, name) => equate_arguments(
+            text,
+            equates,
+            equate_index,
+            equate_count,
+            rd,
+            span_bytes(s, name),
+        ),
         Wanted::Label(name) => label_arguments(
             text,
             labels,

@@ -13,9 +13,9 @@ returns c =
 
 returns-2 : tie.Need-returns-2
 returns-2 c =
-    let o = c .before .before .before in
+    let o = c .before .before .before .before in
     let s = now (o .before .before .args .s) in
-    rw (sym (o .register-and-operand .ensures) ∙ ap (registerAndRead s) (c .before .rd .given .1)) refl
+    rw (c .anew .ensures, sym (o .register-and-operand .ensures) ∙ ap (registerAndRead s) (c .before .before .rd .given .1)) refl
 
 pub register-and-label-spec : {M : Type 1} → statement M
 register-and-label-spec =
@@ -25,4 +25,5 @@ register-and-label-spec =
     (λ c. search needs)  -- enum-known-rd
     (λ c. search needs)  -- enum-told
     returns
+    (λ c κs. search needs)  -- anew-requires
     returns-2)

@@ -30,12 +30,13 @@ returns-2 c =
 
 returns-3 : tie.Need-returns-3
 returns-3 c =
-    let r = c .before .before in
+    let r = c .before .before .before in
     let o = r .before .before .before .before .before in
     let s = now (o .before .before .args .s) in
     rw (
+      c .anew .ensures,
       sym (o .register-and-operand .ensures) ∙ ap (registerAndRead s) (r .before .before .before .rd .given .1),
-      number-read _ _ (r .parse-imm-one-spaced .result) (r .parse-imm-one-spaced .ensures) (r .before .span-bytes .ensures) ∙ ap immValue (c .enum-told2 .given .1),
+      number-read _ _ (r .parse-imm-one-spaced .result) (r .parse-imm-one-spaced .ensures) (r .before .span-bytes .ensures) ∙ ap immValue (c .before .enum-told2 .given .1),
     )
     refl
 
@@ -51,5 +52,6 @@ register-and-number-spec =
     (λ c κs. search needs)  -- parse-imm-one-spaced-requires
     (λ c. search needs)  -- enum-known-v
     (λ c. search needs)  -- enum-told-2
+    (λ c κs. search needs)  -- anew-requires
     returns-2
     returns-3)
