@@ -1,4 +1,6 @@
 // Reads a source on standard input, lays it out at base 0, and writes one line.
+#![tactic(auto)]
+
 mod answer;
 mod input;
 mod line;

@@ -3,7 +3,7 @@ ghost use Rattle.std.specs.Prelude.{◌≡◌};
 ghost use Rattle.encoder.specs.Table.{form_of};
 
 // A register is its number, as in the Rust: one above 31 can be passed, and `encode` refuses it (22).
-#[derive(Drop)]
+#[derive(Clone, Copy)]
 pub enum Instruction {
     Add { rd: u8, rs1: u8, rs2: u8 },
     Sub { rd: u8, rs1: u8, rs2: u8 },
@@ -56,7 +56,7 @@ pub enum Instruction {
 
 // A format's fields: the opcode, then funct3 and funct7 where it has them, the registers, the immediate.
 // A shift is format I with funct7 and the shift in its number's place; they stand where R has funct7 and rs2.
-#[derive(Drop)]
+#[derive(Clone, Copy)]
 pub enum Form {
     // opcode, funct3, funct7, rd, rs1, rs2
     R(u8, u8, u8, u8, u8, u8),

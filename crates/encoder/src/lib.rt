@@ -1,4 +1,6 @@
 // The encoder of the RV32IM instructions: an instruction to its 32-bit word, or the refusal.
+#![tactic(auto)]
+
 mod formats;
 pub mod instruction;
 pub mod sequences;
@@ -14,7 +16,7 @@ use crate::instruction::{Form, Instruction, form_of};
 use numbers::ints::{bits_of_i32, in_signed12};
 
 // A word, refusal 22 or refusal 23.
-#[derive(Drop)]
+#[derive(Clone, Copy)]
 pub enum Encoded {
     Word(u32),
     BadRegister,

@@ -17,13 +17,13 @@ use numbers::registers::Register;
 pub const LONGEST: usize = 11;
 
 // One instruction of a sequence.
-#[derive(Drop)]
+#[derive(Clone, Copy)]
 pub struct Slot {
     pub inst: Instruction,
 }
 
 // The instructions in the first slots, as many as are counted.
-#[derive(Drop)]
+#[derive(Clone, Copy)]
 pub struct Expansion {
     pub slots: [Slot; LONGEST],
     pub count: usize,
@@ -280,7 +280,7 @@ fn word_at(e: Expansion, k: usize) -> Encoded
 }
 
 // How many words were put, refusal 22 or refusal 23.
-#[derive(Drop)]
+#[derive(Clone, Copy)]
 pub enum Put {
     Words(usize),
     BadRegister,

@@ -1,4 +1,6 @@
 // The layout for callers in C and Rust: the one call, and its answer as numbers.
+#![tactic(auto)]
+
 ghost use Rattle.std.specs.Prelude.{◌≡◌, length, get_or};
 ghost use Rattle.layout.specs.Code.Calls.{buffers_now, lengths};
 ghost use Rattle.jig.specs.Called.{Called, numbers_of, numbers_lent};

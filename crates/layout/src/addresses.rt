@@ -12,7 +12,7 @@ use crate::labels::{Lookup, find_label, find_spaced};
 use crate::records::{LabelRecord, get_label, put_label};
 
 // Where the sections start.
-#[derive(Drop)]
+#[derive(Clone, Copy)]
 pub struct Starts {
     pub text: u32,
     pub data: u32,
@@ -66,7 +66,7 @@ pub fn place_labels(labels: &mut [u8], count: usize, starts: Starts)
 }
 
 // A label's address, or nothing where no label has the name.
-#[derive(Drop)]
+#[derive(Clone, Copy)]
 pub enum Address {
     At(u32),
     Nothing,

@@ -17,7 +17,7 @@ use crate::symbols::resolve_symbols;
 use crate::writers::put_zeros;
 
 // What is counted of a layout; after a refusal every count is 0.
-#[derive(Drop)]
+#[derive(Clone, Copy)]
 pub struct Counts {
     pub words: usize,
     pub data_bytes: usize,
@@ -30,7 +30,7 @@ pub struct Counts {
 }
 
 // Number 0: the layout is accepted; else the refusal's number and line.
-#[derive(Drop)]
+#[derive(Clone, Copy)]
 pub struct Answer {
     pub number: u8,
     pub line: u32,
@@ -38,7 +38,7 @@ pub struct Answer {
 }
 
 // What the stages come to: the counts, or a refusal's number and line.
-#[derive(Drop)]
+#[derive(Clone, Copy)]
 enum Laid {
     Through(Counts),
     Refused(u8, u32),
@@ -58,7 +58,7 @@ impl Counts {
 }
 
 // Is every byte at most 127? Else the line of the first that is not.
-#[derive(Drop)]
+#[derive(Clone, Copy)]
 enum Bytes {
     Fine,
     High(u32),

@@ -35,7 +35,7 @@ use numbers::strings::{Quoted, Str, parse_string};
 use numbers::text::{Span, is_digit, span_bytes};
 
 // What an operand writes: a number of a width, a string of the text and so many bytes 0, zeros, or the address of a label.
-#[derive(Drop)]
+#[derive(Clone, Copy)]
 pub enum Write {
     Number(Width, i64),
     Text(Quoted, usize),
@@ -44,7 +44,7 @@ pub enum Write {
 }
 
 // What an operand writes, or its refusal.
-#[derive(Drop)]
+#[derive(Clone, Copy)]
 pub enum Reading {
     As(Write),
     Refused(u8),
@@ -303,7 +303,7 @@ fn data_write(
 }
 
 // What a line reads next: what is written and the place to go on from, a refusal, or nothing more.
-#[derive(Drop)]
+#[derive(Clone, Copy)]
 enum Next {
     As(Write, usize),
     Refused(u8),
@@ -337,7 +337,7 @@ fn next_number(text: &[u8], width: Width, part: Span, at: usize) -> Next
 
 // What a line reads: numbers operand by operand, all else at once, before the loop over them: there its readers would be inlined, and cost
 // each number some registers.
-#[derive(Drop)]
+#[derive(Clone, Copy)]
 enum Readings {
     Numbers(Width),
     Once(Reading),

@@ -10,7 +10,7 @@ use numbers::table::{Found, ROW, SLOTS, prefix_in};
 use numbers::text::first_is;
 
 // What a number takes in the data: 1, 2, 4 or 8 bytes.
-#[derive(Drop)]
+#[derive(Clone, Copy)]
 pub enum Width {
     Byte,
     Half,
@@ -19,14 +19,14 @@ pub enum Width {
 }
 
 // Zeros, of a size or up to an alignment.
-#[derive(Drop)]
+#[derive(Clone, Copy)]
 pub enum Reserve {
     Space,
     Align,
 }
 
 // What data alone have: numbers, a string and so many bytes 0 after it, or floats.
-#[derive(Drop)]
+#[derive(Clone, Copy)]
 pub enum Store {
     Numbers(Width),
     Text(usize),
@@ -34,14 +34,14 @@ pub enum Store {
 }
 
 // What a line of the data section writes: what is stored; a string to its closing quote and so many bytes 0 after it; or zeros.
-#[derive(Drop)]
+#[derive(Clone, Copy)]
 pub enum Source {
     Stores(Store),
     String(usize),
     Reserves(Reserve),
 }
 
-#[derive(Drop)]
+#[derive(Clone, Copy)]
 pub enum Directive {
     Symbol,
     Ignored,
@@ -51,14 +51,14 @@ pub enum Directive {
 }
 
 // A row of the table: what it is, how long its name is, and whether the data section has it.
-#[derive(Drop)]
+#[derive(Clone, Copy)]
 pub struct Spelling {
     pub directive: Directive,
     pub len: usize,
     pub in_data: bool,
 }
 
-#[derive(Drop)]
+#[derive(Clone, Copy)]
 pub enum Spelled {
     As(Spelling),
     Nothing,
@@ -147,14 +147,14 @@ pub fn directive_of(names: &Names, s: &[u8]) -> Spelled
 }
 
 // So many zeros, or zeros up to an alignment.
-#[derive(Drop)]
+#[derive(Clone, Copy)]
 pub enum Reservation {
     Zeros(usize),
     Aligns(usize),
 }
 
 // A reservation, or the refusal of its operand.
-#[derive(Drop)]
+#[derive(Clone, Copy)]
 pub enum Reserved {
     As(Reservation),
     Refused(u8),

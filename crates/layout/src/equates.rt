@@ -86,7 +86,7 @@ pub fn index_equates(text: &[u8], equates: &[u8], count: usize, index: &mut [u16
 }
 
 // An equate's value, or nothing where no equate of the name has one yet.
-#[derive(Drop)]
+#[derive(Clone, Copy)]
 pub enum Value {
     Is(i64),
     Nothing,

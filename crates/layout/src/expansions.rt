@@ -80,14 +80,14 @@ fn li_constant(text: &[u8], equates: &[u8], index: &[u16], count: usize, operand
 
 // What the instructions are made of: a register, x0 where the operands name none, and 32 bits, those of an address or of a
 // number, 0 where there is neither; or a register and a number that a single addi loads.
-#[derive(Drop)]
+#[derive(Clone, Copy)]
 pub enum Arguments {
     Word(Register, u32),
     Single(Register, i32),
 }
 
 // What a pseudo's operands come to, or a refusal's number.
-#[derive(Drop)]
+#[derive(Clone, Copy)]
 pub enum LookedUp {
     As(Arguments),
     Refused(u8),

@@ -13,14 +13,14 @@ use numbers::ints::{Checked, checked_add, checked_sign};
 use numbers::text::span_bytes;
 
 // How far a sum has come: the terms before a place are added. At place 0 a term is to come, behind a term an operator or the end.
-#[derive(Drop)]
+#[derive(Clone, Copy)]
 pub struct Partial {
     pub sum: i64,
     pub at: usize,
 }
 
 // What an evaluation comes to: a value; while a name has none, the sum before that name's term; or a refusal's number.
-#[derive(Drop)]
+#[derive(Clone, Copy)]
 pub enum Evaluated {
     Value(i64),
     Waits(Partial),
@@ -57,7 +57,7 @@ pub fn any_unreadable(s: &[u8], one_space: bool) -> bool
 }
 
 // A term: whether its own minus signs are odd in number, its token, and the place after it.
-#[derive(Drop)]
+#[derive(Clone, Copy)]
 enum Term {
     Found(bool, Token, usize),
     Missing,
@@ -171,7 +171,7 @@ fn add_term(sum: i64, joining: bool, own: bool, v: i64) -> Checked
 }
 
 // What joins the next term: an operator, whether it is a minus, and the place after it; the end; or neither.
-#[derive(Drop)]
+#[derive(Clone, Copy)]
 enum Joint {
     Operator(bool, usize),
     End,

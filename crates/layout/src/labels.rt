@@ -17,7 +17,7 @@ use crate::state::{Count, Place};
 use numbers::text::{Span, same_bytes, same_one_spaced, span_bytes};
 
 // Where a label's record stands among the others, or nowhere.
-#[derive(Drop)]
+#[derive(Clone, Copy)]
 pub enum Lookup {
     At(usize),
     Nothing,

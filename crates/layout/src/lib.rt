@@ -1,4 +1,6 @@
 // The layout: from a source to words, data, labels, equates and items. The call is `assembler::assemble`; the stages are its own affair.
+#![tactic(auto)]
+
 mod addresses;
 pub mod assembler;
 mod bss;

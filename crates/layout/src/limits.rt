@@ -34,7 +34,7 @@ pub const EXPR_SIZE: usize = 16;
 pub const LABEL_WORD_SIZE: usize = 16;
 
 // How much may be laid out: each limit met with what is lent.
-#[derive(Drop)]
+#[derive(Clone, Copy)]
 pub struct Room {
     pub words: usize,
     pub bytes: usize,

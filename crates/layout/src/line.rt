@@ -27,7 +27,7 @@ use numbers::text::{
 
 // An equate's name and expression; the expression of an `.equ` or `.set` parted at a blank is read with each run of
 // white space as one space.
-#[derive(Drop)]
+#[derive(Clone, Copy)]
 pub struct EquateParts {
     pub name: Span,
     pub expr: Span,
@@ -35,7 +35,7 @@ pub struct EquateParts {
 }
 
 // What the section's own rule takes: a line of the text section; what is written in data; in bss zeros.
-#[derive(Drop)]
+#[derive(Clone, Copy)]
 pub enum OwnStatement {
     Item(Span),
     InData(Source, Span),
@@ -43,7 +43,7 @@ pub enum OwnStatement {
 }
 
 // What a statement says: nothing, another section, an equate, what the section's own rule takes, or a refusal.
-#[derive(Drop)]
+#[derive(Clone, Copy)]
 pub enum Statement {
     Nothing,
     Enters(Section),
@@ -53,13 +53,13 @@ pub enum Statement {
 }
 
 // A line's label, whose name may be empty; Unnamed is a line without one.
-#[derive(Drop)]
+#[derive(Clone, Copy)]
 pub enum LabelPart {
     Named(Span),
     Unnamed,
 }
 
-#[derive(Drop)]
+#[derive(Clone, Copy)]
 pub struct Line {
     pub label: LabelPart,
     pub says: Statement,
@@ -317,7 +317,7 @@ fn unlabelled(
 }
 
 // A statement's label, what follows it, and from which byte of that on a `=` is looked for.
-#[derive(Drop)]
+#[derive(Clone, Copy)]
 struct Labelled {
     label: LabelPart,
     rest: Span,

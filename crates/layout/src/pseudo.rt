@@ -13,7 +13,7 @@ use numbers::table::{Found, ROW, SLOTS, word_in};
 use numbers::text::{Span, first_is, span_bytes, text_before};
 
 // The nine pseudo-instructions, in the order of their item kinds 1 to 9.
-#[derive(Drop)]
+#[derive(Clone, Copy)]
 pub enum Pseudo {
     Li,
     La,
@@ -27,14 +27,14 @@ pub enum Pseudo {
 }
 
 // An item's kind, and where its source stands.
-#[derive(Drop)]
+#[derive(Clone, Copy)]
 pub enum LineKind {
     Instr(Span),
     Pseudo(Pseudo, Span),
 }
 
 // What a line of the text section is: an item of a kind, or one of the four other pseudo-instructions.
-#[derive(Drop)]
+#[derive(Clone, Copy)]
 pub enum TextLine {
     Item(LineKind),
     Unsupported,

@@ -5,7 +5,7 @@ ghost use Rattle.layout.specs.Code.Tokens.{TokenFrom};
 use crate::tokens::{TokenAt, token_at};
 
 // What is read, from which place on, and whether with one space for each run of white space.
-#[derive(Drop)]
+#[derive(Clone, Copy)]
 pub struct ExprReader<'a> {
     pub src: &'a [u8],
     pub at: usize,

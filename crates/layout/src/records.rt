@@ -11,7 +11,7 @@ use crate::little_endian::{get_i64, get_u32, put_i64, put_u32};
 
 // A label: its name's start and length, its address and line. Before the sections' starts are known the address is the
 // code of its place.
-#[derive(Drop)]
+#[derive(Clone, Copy)]
 pub struct LabelRecord {
     pub start: u32,
     pub len: u32,
@@ -20,7 +20,7 @@ pub struct LabelRecord {
 }
 
 // An equate: its name's start and length, its line, and its value and round, 0 while it is pending.
-#[derive(Drop)]
+#[derive(Clone, Copy)]
 pub struct EquateRecord {
     pub start: u32,
     pub len: u32,
@@ -31,7 +31,7 @@ pub struct EquateRecord {
 
 // An item: its address (before the base is added, its offset), its line and kind, its first word's index, and its
 // source's start and length.
-#[derive(Drop)]
+#[derive(Clone, Copy)]
 pub struct ItemRecord {
     pub address: u32,
     pub line: u32,
@@ -42,7 +42,7 @@ pub struct ItemRecord {
 }
 
 // An equate's expression: its start and length, whether white space is read in runs, and the code of the equate's place.
-#[derive(Drop)]
+#[derive(Clone, Copy)]
 pub struct ExprRecord {
     pub start: u32,
     pub len: u32,
@@ -51,7 +51,7 @@ pub struct ExprRecord {
 }
 
 // A label word: where it stands in the data, its label's name, and its line.
-#[derive(Drop)]
+#[derive(Clone, Copy)]
 pub struct LabelWordRecord {
     pub at: u32,
     pub start: u32,

@@ -17,7 +17,7 @@ use numbers::ints::{bits_of_i64, i64_of_bits};
 use numbers::text::{Span, span_bytes};
 
 // An equate's turn: what it comes to, and the evaluations so far.
-#[derive(Drop)]
+#[derive(Clone, Copy)]
 pub struct Evaluation {
     pub answer: Evaluated,
     pub evaluations: usize,

@@ -9,7 +9,7 @@ use numbers::text::{Span, find_far, in_sixteen, trim_span_far};
 
 // A line from its place, which contracts alone name, to its end; the statement's part of the text, and how many bytes of
 // that stand before its first `:` or `=`: all where it has neither.
-#[derive(Drop)]
+#[derive(Clone, Copy)]
 pub struct Cut {
     pub at: usize,
     pub end: usize,

@@ -26,7 +26,7 @@ use crate::{directives, pseudo};
 use numbers::text::span_bytes;
 
 // What the stage comes to: where the layout is at the end, or a refusal's number and line.
-#[derive(Drop)]
+#[derive(Clone, Copy)]
 pub enum Stage {
     Through(Counters),
     Refused(u8, u32),

@@ -4,7 +4,7 @@ ghost use Rattle.layout.specs.Limits.{word_limit};
 ghost use Rattle.layout.specs.Code.Places.{place_code, PlaceFits};
 ghost use Rattle.layout.specs.Code.Stands.{entered_own, place_of};
 
-#[derive(Drop)]
+#[derive(Clone, Copy)]
 pub enum Section {
     Text,
     Data,
@@ -12,27 +12,27 @@ pub enum Section {
 }
 
 // A section and the bytes reserved there: an address once the sections' starts are known.
-#[derive(Drop)]
+#[derive(Clone, Copy)]
 pub struct Place {
     pub section: Section,
     pub offset: usize,
 }
 
 // How many items there are, and the words that they reserve.
-#[derive(Drop)]
+#[derive(Clone, Copy)]
 pub struct ItemCount {
     pub items: usize,
     pub words: usize,
 }
 
 // How many bytes of data there are, and the label words among them.
-#[derive(Drop)]
+#[derive(Clone, Copy)]
 pub struct DataCount {
     pub bytes: usize,
     pub label_words: usize,
 }
 
-#[derive(Drop)]
+#[derive(Clone, Copy)]
 pub struct OwnCounters {
     pub section: Section,
     pub items: ItemCount,
@@ -40,57 +40,57 @@ pub struct OwnCounters {
     pub bss: usize,
 }
 
-#[derive(Drop)]
+#[derive(Clone, Copy)]
 pub struct RestCounters {
     pub equates: usize,
     pub own: OwnCounters,
 }
 
-#[derive(Drop)]
+#[derive(Clone, Copy)]
 pub struct Counters {
     pub labels: usize,
     pub rest: RestCounters,
 }
 
 // What a part's step comes to: its counter after it, or a refusal's number.
-#[derive(Drop)]
+#[derive(Clone, Copy)]
 pub enum Count {
     Now(usize),
     Stop(u8),
 }
 
-#[derive(Drop)]
+#[derive(Clone, Copy)]
 pub enum ItemStep {
     Now(ItemCount),
     Stop(u8),
 }
 
-#[derive(Drop)]
+#[derive(Clone, Copy)]
 pub enum DataStep {
     Now(DataCount),
     Stop(u8),
 }
 
-#[derive(Drop)]
+#[derive(Clone, Copy)]
 pub enum OwnStep {
     Now(OwnCounters),
     Stop(u8),
 }
 
-#[derive(Drop)]
+#[derive(Clone, Copy)]
 pub enum RestStep {
     Now(RestCounters),
     Stop(u8),
 }
 
-#[derive(Drop)]
+#[derive(Clone, Copy)]
 pub enum Step {
     Now(Counters),
     Stop(u8),
 }
 
 // What a stage after the lines comes to: the total of what it counts (label words, evaluations, words), or a refusal's number and line.
-#[derive(Drop)]
+#[derive(Clone, Copy)]
 pub enum Total {
     Through(usize),
     Refused(u8, u32),

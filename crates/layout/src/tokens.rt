@@ -10,7 +10,7 @@ use numbers::imm::parse_signed_prefixed_i64;
 use numbers::ints::Imm64;
 use numbers::text::{Span, is_digit, is_space};
 
-#[derive(Drop)]
+#[derive(Clone, Copy)]
 pub enum Token {
     Plus,
     Minus,
@@ -21,14 +21,14 @@ pub enum Token {
 }
 
 // The token that was found and the place after it, to go on from, or the end of the text.
-#[derive(Drop)]
+#[derive(Clone, Copy)]
 pub enum TokenAt {
     At(Token, usize),
     End,
 }
 
 // What a byte is as a sign: whether it is a minus, or none.
-#[derive(Drop)]
+#[derive(Clone, Copy)]
 pub enum Sign {
     Is(bool),
     Nothing,

@@ -15,7 +15,7 @@ use numbers::text::{Span, span_bytes};
 
 // What the operands are; a name is a span of the source. Equate is a second operand that reads as no number. Wrong (18) is
 // another number of operands, no register where one must stand, or a register in a label's place.
-#[derive(Drop)]
+#[derive(Clone, Copy)]
 pub enum Wanted {
     Register(Register),
     Number(Register, i32),

@@ -1,5 +1,7 @@
 // Replays the list of whole answers in data/cases through the call `assemble`: how many lines agreed, and the first that did not. The
 // list's form is described in differential/README.md.
+#![tactic(auto)]
+
 mod buffers;
 mod compare;
 mod listed;

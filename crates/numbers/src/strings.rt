@@ -7,27 +7,27 @@ ghost use Rattle.numbers.specs.Code.Strings.{char_value, size_value, str_value, 
 use crate::text::{Span, in_sixteen, is_digit, leading_spaces};
 
 // Where the text between a string's quotes stands, and how many bytes it stands for; where these are as many as it has, they are its own.
-#[derive(Drop)]
+#[derive(Clone, Copy)]
 pub struct Quoted {
     pub part: Span,
     pub size: usize,
 }
 
-#[derive(Drop)]
+#[derive(Clone, Copy)]
 pub enum Str {
     Is(Quoted),
     Invalid,
 }
 
 // A character of a string: the byte that it stands for, and how many bytes it takes behind its first.
-#[derive(Drop)]
+#[derive(Clone, Copy)]
 pub enum Char {
     Is(u8, usize),
     Invalid,
 }
 
 // How many bytes a text between quotes stands for.
-#[derive(Drop)]
+#[derive(Clone, Copy)]
 enum Size {
     Is(usize),
     Invalid,

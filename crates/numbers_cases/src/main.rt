@@ -1,5 +1,7 @@
 // Replays the list of outside answers in data/cases against the crate numbers: how many agreed, and the first line that did not.
 // The list's form is described in differential/README.md.
+#![tactic(auto)]
+
 mod compare;
 mod constants;
 

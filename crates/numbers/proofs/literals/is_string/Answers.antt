@@ -1,0 +1,9 @@
+-- `literals::is_string`: the code's tests are the definition's.
+use borrow.Author.Tests.{le-leb, lt-leb}
+use Rattle.numbers.proofs.literals.is_string.Goals as goal
+
+pub returns-then-t-lt2 : goal.returns-then-t-lt2
+returns-then-t-lt2 c = simp (lt-leb 2 _ c.if-t-lt2.true)
+
+pub returns : goal.returns
+returns c = simp (le-leb 2 _ c.if-t-lt2.false)

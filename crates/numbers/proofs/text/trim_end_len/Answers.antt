@@ -1,0 +1,29 @@
+-- `text::trim_end_len`: the invariant says that the text up to i is trimmed as the whole text is.
+use Prim.Native.Nat.{◌-◌}
+use mathlib.Core.Path.{◌≡◌, sym, ◌∙◌, ap}
+use mathlib.Core.Bool.{true, false}
+use lib.ListN.{length, get_or}
+use lib.Seq.{take-length}
+use borrow.Author.Rules.{rules}
+use borrow.Author.Tests.{not-true, not-false}
+use Rattle.numbers.specs.Text.{is_space, trim_end}
+use Rattle.numbers.proofs.Trims.{end_space, end_other, end_none}
+use Rattle.numbers.proofs.text.trim_end_len.Goals as goal
+
+pub loop-i-init : goal.loop-i-init
+loop-i-init c = (search rules, ap trim_end (take-length _))
+
+pub returns-then-not-is_space : goal.returns-then-not-is_space
+returns-then-not-is_space c =
+    let s = c.args.s.now in
+    let e : is_space (get_or s (c.loop-i.i - 1) 0) ≡ false = sym c.is_space.ensures ∙ not-true _ c.if-not-is_space.true-raw in
+    sym (end_other s c.loop-i.i (search rules) (search rules) e) ∙ ap length c.loop-i.invariant.1
+
+pub loop-i-preserved : goal.loop-i-preserved
+loop-i-preserved c =
+    let s = c.args.s.now in
+    let e : is_space (get_or s (c.loop-i.i - 1) 0) ≡ true = sym c.is_space.ensures ∙ not-false _ c.if-not-is_space.false-raw in
+    (search rules, end_space s c.loop-i.i (search rules) (search rules) e ∙ c.loop-i.invariant.1)
+
+pub returns : goal.returns
+returns c = sym (end_none _ _ c.loop-i-test.false) ∙ ap length c.loop-i.invariant.1
