@@ -7,9 +7,10 @@ use borrow.Author.Tests.{not-true, not-false, leb-true, leb-false}
 use Rattle.numbers.specs.Code.Starts.{is_zero, leading_zeros}
 use Rattle.numbers.proofs.Trims.{leading_between, leading-within, leading_end}
 use Rattle.numbers.proofs.digits.after_zeros.Goals as goal
+use Rattle.numbers.proofs.digits.after_zeros.Goals.{At-loop-i}
 
 -- how many zeros are left
-left : (c : goal.At-loop-i) → let a = c.args in
+left : (c : At-loop-i) → let a = c.args in
     c.loop-i.i - a.at + leading_zeros (drop c.loop-i.i a.s.now) ≡ leading_zeros (drop a.at a.s.now)
 left c =
     let a = c.args in

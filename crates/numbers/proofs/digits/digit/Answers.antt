@@ -14,13 +14,13 @@ pub returns-in-97-to-102 : goal.returns-in-97-to-102
 returns-in-97-to-102 c = sym (digit_lower c.args.b (search rules) (search rules))
 
 pub returns-in_default : goal.returns-in_default
-returns-in_default c = sym (none_below _ c.if-b-lt48.true)
+returns-in_default c = sym (none_below _ c.in_default.if-b-lt48-own.true)
 
 pub returns-in_default-2 : goal.returns-in_default-2
-returns-in_default-2 c = sym (none_between _ c.if-b-lt58.false c.if-b-lt65.true)
+returns-in_default-2 c = sym (none_between _ c.in_default.if-b-lt58-own.false c.in_default.if-b-lt65-own.true)
 
 pub returns-in_default-3 : goal.returns-in_default-3
-returns-in_default-3 c = sym (none_between_cases _ c.if-b-lt71.false c.if-b-lt97.true)
+returns-in_default-3 c = sym (none_between_cases _ c.in_default.if-b-lt71-own.false c.in_default.if-b-lt97-own.true)
 
 pub returns-in_default-4 : goal.returns-in_default-4
-returns-in_default-4 c = sym (none_above _ c.if-b-lt103.false)
+returns-in_default-4 c = sym (none_above _ c.in_default.if-b-lt103-own.false)

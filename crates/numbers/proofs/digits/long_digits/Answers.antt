@@ -10,16 +10,17 @@ use Rattle.numbers.specs.Code.Starts.{is_zero, leading_zeros}
 use Rattle.numbers.proofs.Trims.{leading-within}
 use Rattle.numbers.proofs.Values.{base_bounds, zeros_before, one_more, no_digit, too_large, quotient_above, quotient_within, digits_end}
 use Rattle.numbers.proofs.digits.long_digits.Goals as goal
+use Rattle.numbers.proofs.digits.long_digits.Goals.{After-base-base, After-quotient-most, At-loop-i, Else-most-value}
 
 -- a base is not 0
-positive : (c : goal.After-base-base) → 0 < c.base-base.result
+positive : (c : After-base-base) → 0 < c.base-base.result
 positive c = omega (arith, c.base-base.ensures, base_bounds c.args.radix)
 
 -- the quotient is that of the base in hand, and a value up to it times the base is within the limit
-most-is : (c : goal.After-quotient-most) → c.quotient-most.result ≡ c.args.limit / c.base-base.result
+most-is : (c : After-quotient-most) → c.quotient-most.result ≡ c.args.limit / c.base-base.result
 most-is c = c.quotient-most.ensures ∙ ap (λ (b : ℕ). c.args.limit / b) (sym c.base-base.ensures)
 
-fits : (c : goal.Else-most-value)
+fits : (c : Else-most-value)
     → c.loop-i.value * c.base-base.result
     ≤ c.args.limit
 fits c =
@@ -33,7 +34,7 @@ loop-i-init c =
     (omega (arith, zeros, leading-within is_zero s), omega arith, zeros_before c.base-base.result _ _ s (positive (goal.at.loop-i-init c).After-base-base) zeros)
 
 -- what the definition gives from here on is what it gives of the text, in the radix's base
-gives : (c : goal.At-loop-i) → let a = c.args in
+gives : (c : At-loop-i) → let a = c.args in
     digits_from c.base-base.result a.limit c.loop-i.value (drop c.loop-i.i a.s.now) ≡ digits_from (base_of a.radix) a.limit 0 a.s.now
 gives c =
     let a = c.args in
@@ -45,7 +46,7 @@ returns-then-base-d c = sym (no_digit _ _ _ _ c.loop-i.i _ (search rules) c.digi
 pub returns-then-most-value : goal.returns-then-most-value
 returns-then-most-value c =
     let p = positive (goal.at.returns-then-most-value c).After-base-base in
-    sym (too_large _ _ _ _ c.loop-i.i _ (search rules) c.digit-d.ensures p c.if-base-d.false (quotient_above _ _ _ _ p (rw (most-is (goal.at.returns-then-most-value c).After-quotient-most) (goal.at.returns-then-most-value c).At-loop-i c.if-most-value.true))) ∙ gives (goal.at.returns-then-most-value c).At-loop-i
+    sym (too_large _ _ _ _ c.loop-i.i _ (search rules) c.digit-d.ensures p c.if-base-d.false (quotient_above _ _ _ _ p (rw (most-is (goal.at.returns-then-most-value c).After-quotient-most) at c.if-most-value.true))) ∙ gives (goal.at.returns-then-most-value c).At-loop-i
 
 pub overflow_mul-shifted : goal.overflow_mul-shifted
 overflow_mul-shifted c = omega (arith, fits c)

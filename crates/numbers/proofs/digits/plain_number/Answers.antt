@@ -10,6 +10,7 @@ use Rattle.numbers.specs.Code.Meanings.{digits_value}
 use Rattle.numbers.proofs.Values.{digits_start, digits_within}
 use Rattle.numbers.proofs.Shorts.{plain-none, plain_few, plain-some}
 use Rattle.numbers.proofs.digits.plain_number.Goals as goal
+use Rattle.numbers.proofs.digits.plain_number.Goals.{In-Value}
 
 pub returns-then-s : goal.returns-then-s
 returns-then-s c = sym (plain-none c.args.s.now c.if-s.true)
@@ -21,13 +22,13 @@ pub returns-in_default : goal.returns-in_default
 returns-in_default c = ap positive_of (sym (ap digits_value c.in_default.is) ∙ c.short_digits.ensures) ∙ plain-some _ c.if-s.false
 
 -- what was read
-reads : (c : goal.In-Value) → let s = c.args.s.now in
+reads : (c : In-Value) → let s = c.args.s.now in
     digits_from 10 (2 ^ 63 - 1) 0 s ≡ some c.in-Value.n
 reads c =
     sym c.short_digits.ensures ∙ ap digits_value c.in-Value.is
 
 -- is within its limit
-small : (c : goal.In-Value) → c.in-Value.n ≤ 9223372036854775807
+small : (c : In-Value) → c.in-Value.n ≤ 9223372036854775807
 small c =
     digits_within _ _ _ _ (sym (digits_start _ _ _ (plain_few c.args.s.now c.if-s.false).0) ∙ reads c)
 

@@ -8,23 +8,23 @@ use Rattle.numbers.specs.Numbers.{digits_from}
 use Rattle.numbers.specs.Code.Meanings.{base_of}
 use Rattle.numbers.proofs.Values.{base_bounds, one_more, no_digit, past_limit, digit_below, few_below, digits_end}
 use Rattle.numbers.proofs.digits.short_digits.Goals as goal
+use Rattle.numbers.proofs.digits.short_digits.Goals.{At-loop-i, Else-base-d}
 
 -- the value with one digit more is below the next power of 16
-below : (c : goal.Else-base-d) →
+below : (c : Else-base-d) →
     c.loop-i.value * c.base-base.result + c.digit-d.result < 16 ^ (c.loop-i.i + 1)
 below c =
-    let b = c.base-base in
     let bounds = base_bounds c.args.radix in
-    digit_below b.result c.loop-i.value c.loop-i.i _ (omega (arith, b.ensures)) c.loop-i.invariant.1 c.if-base-d.false
+    digit_below c.base-base.result c.loop-i.value c.loop-i.i _ (omega (arith, c.base-base.ensures)) c.loop-i.invariant.1 c.if-base-d.false
 
 -- and fits
-fits : (c : goal.Else-base-d) →
+fits : (c : Else-base-d) →
     c.loop-i.value * c.base-base.result + c.digit-d.result < 2 ^ 60
 fits c =
     omega (arith, below c, few_below (c.loop-i.i + 1) (search rules))
 
 -- what the definition gives from here on is what it gives of the text, in the radix's base
-gives : (c : goal.At-loop-i) → let a = c.args in
+gives : (c : At-loop-i) → let a = c.args in
     digits_from c.base-base.result a.limit c.loop-i.value (drop c.loop-i.i a.s.now) ≡ digits_from (base_of a.radix) a.limit 0 a.s.now
 gives c =
     let a = c.args in

@@ -11,14 +11,11 @@ returns-in_default c = rw c.in_default.is refl
 
 pub returns-in_default-checked_neg : goal.returns-in_default-checked_neg
 returns-in_default-checked_neg c =
-    let v = c.n-1.given in
-    let f : SFits w64 v.0.0 = search rules in
-    rw (v.1, ← (rw (to_z-of_z f) at c.checked_neg.ensures), c.in_default-checked_neg.is) refl
+    let f : SFits w64 c.in-Value.v = search rules in
+    rw (c.in-Value.is, ← (rw (to_z-of_z f) at c.checked_neg.ensures), c.in_default-checked_neg.is) refl
 
 pub returns : goal.returns
 returns c =
-    let v = c.n-1.given in
-    let w = c.w-1.given in
-    let f : SFits w64 v.0.0 = search rules in
-    let g : SFits w64 w.0.0 = search rules in
-    rw (v.1, ← (rw (to_z-of_z f) at c.checked_neg.ensures), w.1, to_z-of_z g) refl
+    let f : SFits w64 c.in-Value.v = search rules in
+    let g : SFits w64 c.in-Fits.w = search rules in
+    rw (c.in-Value.is, ← (rw (to_z-of_z f) at c.checked_neg.ensures), c.in-Fits.is, to_z-of_z g) refl

@@ -10,6 +10,7 @@ use Rattle.numbers.specs.Code.Meanings.{digits_value}
 use Rattle.numbers.proofs.Values.{digits_within}
 use Rattle.numbers.proofs.Integers.{minus_magnitude, magnitude_fits}
 use Rattle.numbers.proofs.imm.negative.Goals as goal
+use Rattle.numbers.proofs.imm.negative.Goals.{Else-n-eq0}
 
 pub returns-in_default : goal.returns-in_default
 returns-in_default c = rw (← c.parse_digits.ensures, c.in_default.is) refl
@@ -18,14 +19,14 @@ pub returns-then-n-eq0 : goal.returns-then-n-eq0
 returns-then-n-eq0 c = rw (← c.parse_digits.ensures, c.in-Value.is, c.if-n-eq0.true) refl
 
 -- what was read is within its limit
-small : (c : goal.Else-n-eq0) → c.in-Value.n ≤ 9223372036854775808
+small : (c : Else-n-eq0) → c.in-Value.n ≤ 9223372036854775808
 small c = digits_within _ _ _ _ (sym c.parse_digits.ensures ∙ ap digits_value c.in-Value.is)
 
 pub overflow_cast-result : goal.overflow_cast-result
 overflow_cast-result c = omega (arith, small c, c.if-n-eq0.false)
 
 -- the machine reads n - 1 as an i64
-less_one : (c : goal.Else-n-eq0) → to_z w64 (c.in-Value.n - 1) ≡ pos (c.in-Value.n - 1)
+less_one : (c : Else-n-eq0) → to_z w64 (c.in-Value.n - 1) ≡ pos (c.in-Value.n - 1)
 less_one c = to_z_pos w64 (omega (arith, small c, c.if-n-eq0.false))
 
 pub overflow_sub-result-2 : goal.overflow_sub-result-2

@@ -7,33 +7,37 @@ use mir.Syntax.{w32, w64}
 use mir.Val.{SFits, to_z, of_z}
 use mir.Facts.{to_z-of_z, sfits_widen}
 use Rattle.numbers.specs.Ints.{is_signed32}
+use Rattle.numbers.specs.Numbers.{imm_of}
 use Rattle.numbers.proofs.Integers.{signed32_fits, upper_fits}
 use borrow.Author.Rules.{rules}
 use Rattle.numbers.proofs.imm.parse_imm.Goals as goal
+use Rattle.numbers.proofs.imm.parse_imm.Goals.{Else-in_signed32, In-Value, Then-in_signed32, Then-in_unsigned32}
 
 -- the machine reads the value back from its bits
-read : (c : goal.In-Value) → to_z w64 (of_z w64 c.in-Value.v) ≡ c.in-Value.v
+read : (c : In-Value) → to_z w64 (of_z w64 c.in-Value.v) ≡ c.in-Value.v
 read c = to_z-of_z (let f : SFits w64 c.in-Value.v = search rules in f)
 
-signed : (c : goal.Then-in_signed32) → is_signed32 c.in-Value.v ≡ true
+signed : (c : Then-in_signed32) → is_signed32 c.in-Value.v ≡ true
 signed c = rw (read c.In-Value) at (sym c.in_signed32.ensures ∙ c.if-in_signed32.true)
 
-narrow : (c : goal.Then-in_signed32) → SFits w32 c.in-Value.v
+narrow : (c : Then-in_signed32) → SFits w32 c.in-Value.v
 narrow c = signed32_fits _ (signed c)
 
-unsigned : (c : goal.Else-in_signed32) → is_signed32 c.in-Value.v ≡ false
+unsigned : (c : Else-in_signed32) → is_signed32 c.in-Value.v ≡ false
 unsigned c = rw (read c.In-Value) at (sym c.in_signed32.ensures ∙ c.if-in_signed32.false)
 
-upper : (c : goal.Then-in_unsigned32) → SFits w32 (c.in-Value.v -ℤ pos (2 ^ 32))
+upper : (c : Then-in_unsigned32) → SFits w32 (c.in-Value.v -ℤ pos (2 ^ 32))
 upper c = upper_fits c.in-Value.v (unsigned c.Else-in_signed32) (rw (read c.In-Value) at (sym c.in_unsigned32.ensures ∙ c.if-in_unsigned32.true))
 
 pub returns-in_default : goal.returns-in_default
+unfolding imm_of
 returns-in_default c = rw (← c.parse_imm64.ensures, c.in_default.is) refl
 
 pub overflow_cast-result : goal.overflow_cast-result
 overflow_cast-result c = rw (read (goal.at.overflow_cast-result c).In-Value) (narrow c)
 
 pub returns-then-in_signed32 : goal.returns-then-in_signed32
+unfolding imm_of
 returns-then-in_signed32 c = rw (← c.parse_imm64.ensures, c.in-Value.is, read (goal.at.returns-then-in_signed32 c).In-Value, to_z-of_z (narrow c), signed c) refl
 
 pub overflow_sub-result : goal.overflow_sub-result
@@ -43,6 +47,7 @@ pub overflow_cast-result-then-in_unsigned32 : goal.overflow_cast-result-then-in_
 overflow_cast-result-then-in_unsigned32 c = rw (read (goal.at.overflow_cast-result-then-in_unsigned32 c).In-Value, to_z-of_z (sfits_widen {w' = w64} tt (upper c))) (upper c)
 
 pub returns-then-in_unsigned32 : goal.returns-then-in_unsigned32
+unfolding imm_of
 returns-then-in_unsigned32 c =
     rw (
       ← c.parse_imm64.ensures,
@@ -56,6 +61,7 @@ returns-then-in_unsigned32 c =
     refl
 
 pub returns : goal.returns
+unfolding imm_of
 returns c =
     rw (
       ← c.parse_imm64.ensures,

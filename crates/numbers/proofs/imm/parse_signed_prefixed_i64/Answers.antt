@@ -3,6 +3,7 @@ use mathlib.Core.Path.{sym, ◌∙◌, ap}
 use mir.Syntax.{w64}
 use mir.Val.{SFits}
 use mir.Facts.{to_z-of_z}
+use Rattle.numbers.specs.Numbers.{number_of}
 use Rattle.numbers.specs.Code.Meanings.{plain_value}
 use borrow.Author.Rules.{rules}
 use Rattle.numbers.proofs.Shorts.{plain_means}
@@ -10,10 +11,10 @@ use Rattle.numbers.proofs.imm.parse_signed_prefixed_i64.Goals as goal
 
 pub returns-in-Number : goal.returns-in-Number
 returns-in-Number c =
-    let v = c.v-1.given in
-    let f : SFits w64 v.0.0 = search rules in
-    let plain = plain_means _ _ (sym c.plain_number.ensures ∙ ap plain_value v.1) in
+    let f : SFits w64 c.in-Number.v = search rules in
+    let plain = plain_means _ _ (sym c.plain_number.ensures ∙ ap plain_value c.in-Number.is) in
     rw (to_z-of_z f) (sym plain.0)
 
 pub returns : goal.returns
+unfolding number_of
 returns c = simp (c.trimmed_number.ensures, c.trim.ensures)

@@ -9,27 +9,28 @@ use mir.Val.{to_z, of_z}
 use mir.Facts.{to_z-of_z}
 use Rattle.numbers.proofs.Integers.{least, most, fit_some, low_room, high_room, low_beyond, high_beyond, low_sum, high_sum}
 use Rattle.numbers.proofs.ints.checked_add.Goals as goal
+use Rattle.numbers.proofs.ints.checked_add.Goals.{Else-a-b, Else-b-a, Else-b-lt0, Start, Then-a-b, Then-b-a, Then-b-lt0}
 
-module _ (c : goal.Start) where
+module _ (c : Start) where
   a_back : to_z w64 (of_z w64 c.args.a) ≡ c.args.a
   a_back = to_z-of_z c.ranges.a
 
   b_back : to_z w64 (of_z w64 c.args.b) ≡ c.args.b
   b_back = to_z-of_z c.ranges.b
 
-minus : (c : goal.Then-b-lt0) → lt_z c.args.b (pos 0) ≡ true
+minus : (c : Then-b-lt0) → lt_z c.args.b (pos 0) ≡ true
 minus c = rw (b_back c.Start) at c.if-b-lt0.true
 
-plus : (c : goal.Else-b-lt0) → lt_z c.args.b (pos 0) ≡ false
+plus : (c : Else-b-lt0) → lt_z c.args.b (pos 0) ≡ false
 plus c = rw (b_back c.Start) at c.if-b-lt0.false
 
 pub overflow_sub-b : goal.overflow_sub-b
 overflow_sub-b c = rw (b_back (goal.at.overflow_sub-b c).Start) (low_room _ _ c.ranges.a c.ranges.b (minus c))
 
-too-low : (c : goal.Then-a-b) → lt_z c.args.a (least -ℤ c.args.b) ≡ true
+too-low : (c : Then-a-b) → lt_z c.args.a (least -ℤ c.args.b) ≡ true
 too-low c = rw (a_back c.Start, to_z-of_z (sub-if2 c.Then-b-lt0), b_back c.Start) at c.if-a-b.true
 
-not_low : (c : goal.Else-a-b) → lt_z c.args.a (least -ℤ c.args.b) ≡ false
+not_low : (c : Else-a-b) → lt_z c.args.a (least -ℤ c.args.b) ≡ false
 not_low c = rw (a_back c.Start, to_z-of_z (sub-if2 c.Then-b-lt0), b_back c.Start) at c.if-a-b.false
 
 pub returns-then-a-b : goal.returns-then-a-b
@@ -46,10 +47,10 @@ returns-then-b-lt0 c =
 pub overflow_sub-b-2 : goal.overflow_sub-b-2
 overflow_sub-b-2 c = rw (b_back (goal.at.overflow_sub-b-2 c).Start) (high_room _ _ c.ranges.a c.ranges.b (plus c))
 
-too-high : (c : goal.Then-b-a) → lt_z (most -ℤ c.args.b) c.args.a ≡ true
+too-high : (c : Then-b-a) → lt_z (most -ℤ c.args.b) c.args.a ≡ true
 too-high c = rw (a_back c.Start, to_z-of_z (sub-if3 c.Else-b-lt0), b_back c.Start) at c.if-b-a.true
 
-not-high : (c : goal.Else-b-a) → lt_z (most -ℤ c.args.b) c.args.a ≡ false
+not-high : (c : Else-b-a) → lt_z (most -ℤ c.args.b) c.args.a ≡ false
 not-high c = rw (a_back c.Start, to_z-of_z (sub-if3 c.Else-b-lt0), b_back c.Start) at c.if-b-a.false
 
 pub returns-then-b-a : goal.returns-then-b-a

@@ -9,15 +9,16 @@ use mir.Facts.{to_z-of_z, to_z_pos}
 use borrow.Author.Tests.{lt-ltb, le-ltb}
 use Rattle.numbers.proofs.Integers.{complement}
 use Rattle.numbers.proofs.ints.i64_of_bits.Goals as goal
+use Rattle.numbers.proofs.ints.i64_of_bits.Goals.{Else-b-lt9223372036854775808}
 
 pub returns-then-b-lt9223372036854775808 : goal.returns-then-b-lt9223372036854775808
 returns-then-b-lt9223372036854775808 c = to_z_pos w64 c.if-b-lt9223372036854775808.true ∙ rw (lt-ltb c.args.b (2 ^ 63) c.if-b-lt9223372036854775808.true) refl
 
 -- the complement, as the machine reads it, and -1 less it
-read : (c : goal.Else-b-lt9223372036854775808) → negsuc 0 -ℤ to_z w64 (18446744073709551615 - c.args.b) ≡ negsuc (18446744073709551615 - c.args.b)
+read : (c : Else-b-lt9223372036854775808) → negsuc 0 -ℤ to_z w64 (18446744073709551615 - c.args.b) ≡ negsuc (18446744073709551615 - c.args.b)
 read c = ap (λ (z : ℤ). negsuc 0 -ℤ z) (to_z_pos w64 {n = 18446744073709551615 - c.args.b} (omega arith)) ∙ complement (18446744073709551615 - c.args.b)
 
-fits : (c : goal.Else-b-lt9223372036854775808) → SFits w64 (negsuc (18446744073709551615 - c.args.b))
+fits : (c : Else-b-lt9223372036854775808) → SFits w64 (negsuc (18446744073709551615 - c.args.b))
 fits c = record { sfits = omega arith }
 
 pub overflow_sub-result-2 : goal.overflow_sub-result-2

@@ -5,9 +5,10 @@ use mir.Val.{SFits}
 use mir.Facts.{to_z-of_z, sfits_widen}
 use borrow.Author.Rules.{rules}
 use Rattle.numbers.proofs.ints.widened.Goals as goal
+use Rattle.numbers.proofs.ints.widened.Goals.{In-Value}
 
 -- the value, at both widths
-narrow : (c : goal.In-Value) → SFits w32 c.in-Value.v
+narrow : (c : In-Value) → SFits w32 c.in-Value.v
 narrow c = search rules
 
 pub overflow_cast-result : goal.overflow_cast-result

@@ -6,18 +6,17 @@ use Rattle.numbers.specs.Text.{is_space}
 use Rattle.numbers.proofs.Trims.{leading-within, trim_end-within}
 use Rattle.numbers.proofs.Quoted.{StringAt, str_lit_yes, str_lit_no}
 use Rattle.numbers.proofs.literals.parse_str_lit.Goals as goal
+use Rattle.numbers.proofs.literals.parse_str_lit.Goals.{Then-is_string}
 
 pub slice_bounds-t-count : goal.slice_bounds-t-count
 slice_bounds-t-count c = omega (arith, c.leading_spaces-start.ensures, leading-within is_space c.args.s.now)
--- LOST slice-bounds-t-start
-part-t-start c = sub-t c
 
 pub slice_bounds-is_string-end : goal.slice_bounds-is_string-end
-slice_bounds-is_string-end c = sym (length-take-le _ _ (rw c.trim_end_len.ensures (trim_end-within _)))
+slice_bounds-is_string-end c = sym (length-take-le _ _ (rw c.trim_end_len-len.ensures (trim_end-within _)))
 
-string-at : (c : goal.Then-is_string) → StringAt c.before.before.before.before.before.before.before.args.s.now c.leading_spaces.result c.trim_end_len.result
+string-at : (c : Then-is_string) → StringAt c.args.s.now c.leading_spaces-start.result c.trim_end_len-len.result
 string-at c =
-    str_lit_yes _ _ _ c.leading_spaces.ensures c.trim_end_len.ensures (sym c.is_string.ensures ∙ c.if-is_string.true)
+    str_lit_yes _ _ _ c.leading_spaces-start.ensures c.trim_end_len-len.ensures (sym c.is_string.ensures ∙ c.if-is_string.true)
 
 pub overflow_add-result : goal.overflow_add-result
 overflow_add-result c = omega (arith, (string-at c).1)
@@ -29,4 +28,4 @@ pub returns-then-is_string : goal.returns-then-is_string
 returns-then-is_string c = (string-at c).2
 
 pub returns : goal.returns
-returns c = str_lit_no _ _ _ c.leading_spaces.ensures c.trim_end_len.ensures (sym c.is_string.ensures ∙ c.if-is_string.false)
+returns c = str_lit_no _ _ _ c.leading_spaces-start.ensures c.trim_end_len-len.ensures (sym c.is_string.ensures ∙ c.if-is_string.false)

@@ -2,7 +2,7 @@
 use mathlib.Core.Path.{refl, sym}
 use native.Mathlib.Omega.{arith}
 use lib.ListN.{drop, length-drop}
-use Rattle.numbers.specs.Code.Cursors.{is_separator}
+use Rattle.numbers.specs.Code.Cursors.{is_separator, item_operand_at}
 use Rattle.numbers.proofs.Trims.{tail, leading-within}
 use Rattle.numbers.proofs.Parts.{item_past}
 use Rattle.numbers.proofs.operands.item_operand_at.Goals as goal
@@ -16,4 +16,5 @@ overflow_add-at c =
     omega (arith, simp tail at c.leading_separators-separators.ensures, leading-within is_separator (drop a.at a.s.now), length-drop a.at a.s.now)
 
 pub returns : goal.returns
+unfolding item_operand_at
 returns c = rw (c.item_operand_here.ensures, c.leading_separators-separators.ensures, tail) refl

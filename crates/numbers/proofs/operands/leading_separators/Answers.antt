@@ -9,12 +9,12 @@ use Rattle.numbers.proofs.operands.leading_separators.Goals as goal
 pub returns-then-not-is_space-b : goal.returns-then-not-is_space-b
 returns-then-not-is_space-b c =
     let s = c.args.s.now in
-    omega (arith, leading-stop is_separator s c.loop-i.i (search rules) (not-true _ (rw c.is_space.ensures (goal.at.returns-then-not-is_space-b c).At-loop-i c.if-not-is_space-b.true-raw)))
+    omega (arith, leading-stop is_separator s c.loop-i.i (search rules) (not-true _ (rw c.is_space.ensures at c.if-not-is_space-b.true-raw)))
 
 pub loop-i-preserved : goal.loop-i-preserved
 loop-i-preserved c =
     let s = c.args.s.now in
-    omega (arith, leading_more is_separator s c.loop-i.i (search rules) (not-false _ (rw c.is_space.ensures (goal.at.loop-i-preserved c).At-loop-i c.if-not-is_space-b.false-raw)))
+    omega (arith, leading_more is_separator s c.loop-i.i (search rules) (not-false _ (rw c.is_space.ensures at c.if-not-is_space-b.false-raw)))
 
 pub returns : goal.returns
 returns c = omega (arith, leading_end is_separator c.args.s.now c.loop-i.i c.loop-i-test.false)

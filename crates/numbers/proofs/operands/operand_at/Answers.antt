@@ -5,16 +5,19 @@ use lib.ListN.{length-take, length-drop}
 use lib.Seq.{length-take-le}
 use borrow.Author.Tests.{le-leb, lt-leb}
 use Rattle.numbers.specs.Text.{byte, before}
+use Rattle.numbers.specs.Code.Spans.{trim_span}
+use Rattle.numbers.specs.Code.Cursors.{operand_at}
 use Rattle.numbers.proofs.Trims.{tail, span_start}
 use Rattle.numbers.proofs.Places.{index_within, find_within}
 use borrow.Author.Rules.{rules}
 use Rattle.numbers.proofs.operands.operand_at.Goals as goal
 
 pub returns-then-s-at : goal.returns-then-s-at
+unfolding operand_at
 returns-then-s-at c = rw (lt-leb _ _ c.if-s-at.true) refl
 
 pub slice_bounds-trim_span-end : goal.slice_bounds-trim_span-end
-slice_bounds-trim_span-end c = sym (length-take-le _ _ (rw c.find.ensures (index_within _ _)))
+slice_bounds-trim_span-end c = sym (length-take-le _ _ (rw c.find-end.ensures (index_within _ _)))
 
 pub overflow_add-start : goal.overflow_add-start
 overflow_add-start c =
@@ -23,17 +26,16 @@ overflow_add-start c =
 
 pub overflow_add-result : goal.overflow_add-result
 overflow_add-result c =
-    let a = c.before.before.before.before.before.before.before.args in
-    let f = c.find in
-    let h = find_within (byte ",") a.s.now a.at f.result (search rules) f.ensures in
+    let a = c.args in
+    let h = find_within (byte ",") a.s.now a.at c.find-end.result (search rules) c.find-end.ensures in
     search rules
 
 pub overflow_add-result-2 : goal.overflow_add-result-2
 overflow_add-result-2 c =
-    let a = c.before.before.before.before.before.before.before.args in
-    let f = c.find in
-    let h = find_within (byte ",") a.s.now a.at f.result (search rules) f.ensures in
+    let a = c.args in
+    let h = find_within (byte ",") a.s.now a.at c.find-end.result (search rules) c.find-end.ensures in
     search rules
 
 pub returns : goal.returns
-returns c = rw (le-leb _ _ c.if1.false, c.trim_span-part.ensures, c.find.ensures, tail, add-one) refl
+unfolding operand_at trim_span before
+returns c = rw (le-leb _ _ c.if-s-at.false, c.trim_span-part.ensures, c.find-end.ensures, tail, add-one) refl

@@ -4,6 +4,8 @@ use mathlib.Core.Path.{refl, sym, ◌∙◌}
 use mathlib.Core.List.{map}
 use borrow.Author.Rules.{rules}
 use Rattle.numbers.specs.Text.{lower_case}
+use Rattle.numbers.specs.Registers.{abi_names}
+use Rattle.numbers.specs.Code.Tables.{key_of}
 use Rattle.numbers.proofs.Names.{abi_long, abi_hit, abi-miss, abi-none, abi-checked}
 use Rattle.numbers.proofs.registers.abi_register.Goals as goal
 
@@ -14,13 +16,14 @@ pub loop-n-init : goal.loop-n-init
 loop-n-init c = (search rules, refl)
 
 pub returns-then-keys-n : goal.returns-then-keys-n
+unfolding abi_names key_of
 returns-then-keys-n c =
     let s = c.args.s.now in
-    let known = c.type_inv.s in
-    let hit = abi_hit s (λ i. (known i).fits) c.loop-n.n _ c.name_key-key.ensures (search rules) c.if-keys-n.true in
+    let hit = abi_hit s (λ i. (c.type_inv.s i).fits) c.loop-n.n _ c.name_key-key.ensures (search rules) c.if-keys-n.true in
     c.new.ensures ∙ abi-checked (map lower_case s) _ (sym c.loop-n.invariant.1 ∙ hit)
 
 pub loop-n-preserved : goal.loop-n-preserved
+unfolding abi_names key_of
 loop-n-preserved c =
     let s = c.args.s.now in
     (search rules, abi-miss s (λ i. (c.type_inv.s i).fits) c.loop-n.n _ c.name_key-key.ensures (search rules) c.if-keys-n.false ∙ c.loop-n.invariant.1)

@@ -6,15 +6,15 @@ use borrow.Author.Tests.{lt-ltb}
 use Rattle.numbers.specs.Code.Meanings.{digits_value}
 use Rattle.numbers.proofs.Values.{digits_within}
 use Rattle.numbers.proofs.registers.numbered.Goals as goal
+use Rattle.numbers.proofs.registers.numbered.Goals.{In-Value}
 
 pub returns-in_default : goal.returns-in_default
 returns-in_default c = sym (ap digits_value c.in_default.is) ∙ c.parse_digits.ensures
 
 -- at most 31
-small : (c : goal.In-Value) → c.in-Value.n < 32
+small : (c : In-Value) → c.in-Value.n < 32
 small c =
-    let n = c.n-1.given in
-    omega (arith, digits_within 10 31 c.args.s.now n.0.0 (sym c.parse_digits.ensures ∙ ap digits_value n.1))
+    omega (arith, digits_within 10 31 c.args.s.now c.in-Value.n (sym c.parse_digits.ensures ∙ ap digits_value c.in-Value.is))
 
 pub overflow_cast-n : goal.overflow_cast-n
 overflow_cast-n c = omega (arith, small c)

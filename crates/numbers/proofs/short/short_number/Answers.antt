@@ -8,6 +8,7 @@ use Rattle.numbers.specs.Text.{text, starts_with}
 use Rattle.numbers.proofs.Prefixes.{prefix_length, longer_prefix}
 use Rattle.numbers.proofs.Shorts.{hex_bytes, decimal_short, zeros_short, hex_short}
 use Rattle.numbers.proofs.short.short_number.Goals as goal
+use Rattle.numbers.proofs.short.short_number.Goals.{After-byte_at-2, Else-not-byte_at}
 
 pub returns-then-not-byte_at : goal.returns-then-not-byte_at
 returns-then-not-byte_at c =
@@ -17,7 +18,7 @@ returns-then-not-byte_at c =
     c.digits_at.ensures ∙ decimal_short s c.args.at first c.after_blanks-first.ensures none
 
 -- a zero stands after the blanks
-zero : (c : goal.Else-not-byte_at) → starts_with (text "0") (drop c.after_blanks-first.result c.args.s.now) ≡ true
+zero : (c : Else-not-byte_at) → starts_with (text "0") (drop c.after_blanks-first.result c.args.s.now) ≡ true
 zero c = sym c.byte_at.ensures ∙ not-false _ c.if-not-byte_at.false-raw
 
 pub overflow_add-first : goal.overflow_add-first
@@ -29,7 +30,7 @@ overflow_add-first c =
     search rules
 
 -- `0x` does where the second byte is an x
-hex : (c : goal.After-byte_at-2) (x : Bool) → c.byte_at-2.result ≡ x →
+hex : (c : After-byte_at-2) (x : Bool) → c.byte_at-2.result ≡ x →
     starts_with (text "0x") (drop c.after_blanks-first.result c.args.s.now) ≡ x
 hex c x e =
     hex_bytes c.args.s.now c.after_blanks-first.result x (zero c.Else-not-byte_at) (sym c.byte_at-2.ensures ∙ e)
@@ -51,6 +52,5 @@ returns-then-byte_at c =
 pub returns : goal.returns
 returns c =
     let a = c.args in
-    let z = c.after_zeros in
     let none = hex (goal.at.returns c).After-byte_at-2 false c.if-byte_at.false in
-    c.digits_at-2.ensures ∙ zeros_short a.s.now a.at c.after_blanks-first.result c.after_blanks-first.ensures none z.result z.ensures
+    c.digits_at-2.ensures ∙ zeros_short a.s.now a.at c.after_blanks-first.result c.after_blanks-first.ensures none c.after_zeros.result c.after_zeros.ensures

@@ -9,18 +9,19 @@ use Rattle.numbers.specs.Code.Strings.{size_of}
 use Rattle.numbers.proofs.CharLaws.{decoded_on, decoded_bad, decoded_end, char_inside, size_start, size_more}
 use borrow.Author.Rules.{rules}
 use Rattle.numbers.proofs.strings.decoded_len.Goals as goal
+use Rattle.numbers.proofs.strings.decoded_len.Goals.{In-Is}
 
 pub loop-i-init : goal.loop-i-init
 loop-i-init c = (omega arith, omega arith, size_start (size_of (decoded c.args.s.now)))
 
 -- the character at i
-here : (d : goal.In-Is)
+here : (d : In-Is)
     → char_of (drop d.loop-i.i d.args.s.now)
     ≡ some (char d.in-Is.field-0 d.in-Is.more)
 here d = sym (rw d.in-Is.is at d.char_at.ensures)
 
 -- it ends within the text
-inside : (d : goal.In-Is)
+inside : (d : In-Is)
     → d.loop-i.i + (d.in-Is.more + 1) ≤ length d.args.s.now
 inside d = char_inside _ _ _ (here d)
 

@@ -9,9 +9,10 @@ use Rattle.numbers.specs.Strings.{nothing_beside}
 use Rattle.numbers.proofs.QuoteLaws.{mark_within, mark_rests, unclosed, beside, counted, counted_few}
 use borrow.Author.Rules.{rules}
 use Rattle.numbers.proofs.strings.quoted_from.Goals as goal
+use Rattle.numbers.proofs.strings.quoted_from.Goals.{Else-not-nothing_beside}
 
 -- the string is closed, with nothing beside it
-clear : (d : goal.Else-not-nothing_beside) → nothing_beside (drop (d.quote_from-end.result + 1) d.args.s.now) ≡ true
+clear : (d : Else-not-nothing_beside) → nothing_beside (drop (d.quote_from-end.result + 1) d.args.s.now) ≡ true
 clear d = sym (rw tail at d.nothing_beside.ensures) ∙ not-false _ d.if-not-nothing_beside.false-raw
 
 pub quote_from-end-requires : goal.quote_from-end-requires

@@ -26,5 +26,5 @@ returns-in-34 c = rw c.in-34.is refl
 
 pub returns-in_default : goal.returns-in_default
 returns-in_default c =
-    let none_of = c.in_default.rest in
+    let none_of = c.in_default.in_default-own.rest in
     rw (ne_eqb _ _ none_of.0.0.0.0.0.0.1, ne_eqb _ _ none_of.0.0.0.0.0.1, ne_eqb _ _ none_of.0.0.0.0.1, ne_eqb _ _ none_of.0.0.0.1, ne_eqb _ _ none_of.0.0.1, ne_eqb _ _ none_of.0.1, ne_eqb _ _ none_of.1) refl

@@ -6,26 +6,16 @@ use borrow.Author.Rules.{rules}
 use Rattle.numbers.proofs.table.begins_with_row.Goals as goal
 
 pub returns-then-b-eq32 : goal.returns-then-b-eq32
-returns-then-b-eq32 c =
-    let l = c.loop-i in
-    sym (l.invariant.1 ∙ name_over c.args.table.now c.args.s.now c.args.at l.i c.requires c.loop-i-test.true c.if-b-eq32.true)
+returns-then-b-eq32 c = sym (c.loop-i.invariant.1 ∙ name_over c.args.table.now c.args.s.now c.args.at c.loop-i.i c.requires c.loop-i-test.true c.if-b-eq32.true)
 
 pub returns-then-s-i : goal.returns-then-s-i
-returns-then-s-i c =
-    let l = c.loop-i in
-    sym (l.invariant.1 ∙ text_over c.args.table.now c.args.s.now c.args.at l.i c.requires c.loop-i-test.true c.if-b-eq32.false c.if-s-i.true)
+returns-then-s-i c = sym (c.loop-i.invariant.1 ∙ text_over c.args.table.now c.args.s.now c.args.at c.loop-i.i c.requires c.loop-i-test.true c.if-b-eq32.false c.if-s-i.true)
 
 pub returns-then-s-i-2 : goal.returns-then-s-i-2
-returns-then-s-i-2 c =
-    let l = c.loop-i in
-    sym (l.invariant.1 ∙ byte-other c.args.table.now c.args.s.now c.args.at l.i c.requires c.loop-i-test.true c.if-b-eq32.false c.if-s-i.false c.if-s-i-2.true)
+returns-then-s-i-2 c = sym (c.loop-i.invariant.1 ∙ byte-other c.args.table.now c.args.s.now c.args.at c.loop-i.i c.requires c.loop-i-test.true c.if-b-eq32.false c.if-s-i.false c.if-s-i-2.true)
 
 pub loop-i-preserved : goal.loop-i-preserved
-loop-i-preserved c =
-    let l = c.loop-i in
-    (search rules, l.invariant.1 ∙ row-byte-same c.args.table.now c.args.s.now c.args.at l.i c.requires c.loop-i-test.true c.if-b-eq32.false c.if-s-i.false c.if-s-i-2.false)
+loop-i-preserved c = (search rules, c.loop-i.invariant.1 ∙ row-byte-same c.args.table.now c.args.s.now c.args.at c.loop-i.i c.requires c.loop-i-test.true c.if-b-eq32.false c.if-s-i.false c.if-s-i-2.false)
 
 pub returns : goal.returns
-returns c =
-    let l = c.loop-i in
-    sym (l.invariant.1 ∙ row_over c.args.table.now c.args.s.now c.args.at l.i c.requires c.loop-i-test.false)
+returns c = sym (c.loop-i.invariant.1 ∙ row_over c.args.table.now c.args.s.now c.args.at c.loop-i.i c.requires c.loop-i-test.false)

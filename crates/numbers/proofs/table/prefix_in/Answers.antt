@@ -8,6 +8,7 @@ use Rattle.numbers.specs.Text.{starts_with}
 use Rattle.numbers.specs.Code.Tables.{row_name, prefix_slot, TableOf, first}
 use Rattle.numbers.proofs.Rows.{rows_ahead, start_below, prefix_slot_lem, text_shorter, slots_fit, walk_fits, walk_found, turn-here, turn_next, turn_end}
 use Rattle.numbers.proofs.table.prefix_in.Goals as goal
+use Rattle.numbers.proofs.table.prefix_in.Goals.{After-wide-end}
 
 pub returns-then-s-lt3 : goal.returns-then-s-lt3
 returns-then-s-lt3 c = λ rs table. sym (text_shorter c.args.s.now rs table.each c.if-s-lt3.true)
@@ -22,13 +23,13 @@ pub bounds-table-slot-2 : goal.bounds-table-slot-2
 bounds-table-slot-2 c = omega (arith, c.prefix_slot-slot.ensures, start_below c.args.s.now c.if-s-lt3.false, slots_fit prefix_slot c.args.table.now c.requires)
 
 -- the rows of the text's slot are in the table, and the first of them that the text begins with is the first of all
-fits : (d : goal.After-wide-end) → 65 + d.wide-end.result * 16 ≤ length d.args.table.now
+fits : (d : After-wide-end) → 65 + d.wide-end.result * 16 ≤ length d.args.table.now
 fits d =
     let a = d.args in
     walk_fits prefix_slot a.table.now (λ x. starts_with (row_name x) a.s.now) (prefix_slot a.s.now) (start_below a.s.now d.if-s-lt3.false)
     _ _ _ d.prefix_slot-slot.ensures d.wide-row.ensures.0 d.wide-end.ensures.0 d.requires
 
-found : (d : goal.After-wide-end) (rs : List (List ℕ)) → TableOf prefix_slot rs d.args.table.now
+found : (d : After-wide-end) (rs : List (List ℕ)) → TableOf prefix_slot rs d.args.table.now
     → first (λ x. starts_with (row_name x) d.args.s.now) (rows_ahead d.args.table.now d.wide-row.result d.wide-end.result)
     ≡ first (λ x. starts_with (row_name x) d.args.s.now) rs
 found d =

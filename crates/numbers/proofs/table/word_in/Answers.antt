@@ -8,6 +8,7 @@ use Rattle.numbers.specs.Text.{same}
 use Rattle.numbers.specs.Code.Tables.{row_name, slot_of, TableOf, first}
 use Rattle.numbers.proofs.Rows.{rows_ahead, slot_below, word_slot, slots_fit, walk_fits, walk_found, turn-here, turn_next, turn_end}
 use Rattle.numbers.proofs.table.word_in.Goals as goal
+use Rattle.numbers.proofs.table.word_in.Goals.{After-wide-end}
 
 pub bounds-table-slot : goal.bounds-table-slot
 bounds-table-slot c = omega (arith, c.slot_of-slot.ensures, slot_below c.args.word.now, slots_fit slot_of c.args.table.now c.requires.0)
@@ -19,13 +20,13 @@ pub bounds-table-slot-2 : goal.bounds-table-slot-2
 bounds-table-slot-2 c = omega (arith, c.slot_of-slot.ensures, slot_below c.args.word.now, slots_fit slot_of c.args.table.now c.requires.0)
 
 -- the rows of the word's slot are in the table, and the first of them that is the word's is the first of all
-fits : (d : goal.After-wide-end) → 65 + d.wide-end.result * 16 ≤ length d.args.table.now
+fits : (d : After-wide-end) → 65 + d.wide-end.result * 16 ≤ length d.args.table.now
 fits d =
     let a = d.args in
     walk_fits slot_of a.table.now (λ x. same (row_name x) a.word.now) (slot_of a.word.now) (slot_below a.word.now)
     _ _ _ d.slot_of-slot.ensures d.wide-row.ensures.0 d.wide-end.ensures.0 d.requires.0
 
-found : (d : goal.After-wide-end) (rs : List (List ℕ)) → TableOf slot_of rs d.args.table.now
+found : (d : After-wide-end) (rs : List (List ℕ)) → TableOf slot_of rs d.args.table.now
     → first (λ x. same (row_name x) d.args.word.now) (rows_ahead d.args.table.now d.wide-row.result d.wide-end.result)
     ≡ first (λ x. same (row_name x) d.args.word.now) rs
 found d =

@@ -10,8 +10,6 @@ returns-then-s-eq0 c = omega (arith, c.if-s-eq0.true, leading-within is_space c.
 
 pub slice_bounds-leading_spaces-count : goal.slice_bounds-leading_spaces-count
 slice_bounds-leading_spaces-count c = omega (arith, c.space_blocks-from.ensures, leading-within is_space c.args.s.now)
--- LOST slice-bounds-leading-spaces-start
-part-leading-spaces-start c = let h = sub-leading-spaces c in search rules
 
 pub returns : goal.returns
 returns c = rw (c.leading_spaces-2.ensures, tail) (leading-from is_space _ _ (omega (arith, c.space_blocks-from.ensures)))

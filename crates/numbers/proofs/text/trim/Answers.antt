@@ -8,13 +8,9 @@ use Rattle.numbers.proofs.text.trim.Goals as goal
 
 pub slice_bounds-t-count : goal.slice_bounds-t-count
 slice_bounds-t-count c = omega (arith, c.leading_spaces-start.ensures, leading-within is_space c.args.s.now)
--- LOST slice-bounds-t-start
-part-t-start c = omega (arith, c.leading-spaces.ensures, leading-within is_space c.before.before.args.s.now)
 
 pub slice_bounds-result-end : goal.slice_bounds-result-end
-slice_bounds-result-end c = sym (length-take-le _ _ (rw c.trim_end_len.ensures (trim_end-within _)))
+slice_bounds-result-end c = sym (length-take-le _ _ (rw c.trim_end_len-len.ensures (trim_end-within _)))
 
 pub returns : goal.returns
-returns c =
-    let start = c.leading_spaces in
-    rw c.trim_end_len.ensures (take-trim_end _ ∙ trim_steps c.before.before.before.before.before.args.s.now start.result start.ensures)
+returns c = rw c.trim_end_len-len.ensures (take-trim_end _ ∙ trim_steps c.args.s.now c.leading_spaces-start.result c.leading_spaces-start.ensures)
