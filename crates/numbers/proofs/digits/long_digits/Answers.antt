@@ -4,34 +4,35 @@ use mathlib.Core.Path.{◌≡◌, sym, ◌∙◌, ap}
 use native.Mathlib.Omega.{arith}
 use lib.ListN.{drop}
 use borrow.Author.Rules.{rules}
+use Rattle.numbers.specs.declared.digits.Radix.{Radix}
 use Rattle.numbers.specs.Numbers.{digits_from}
 use Rattle.numbers.specs.Code.Meanings.{base_of}
 use Rattle.numbers.specs.Code.Starts.{is_zero, leading_zeros}
 use Rattle.numbers.proofs.Trims.{leading-within}
 use Rattle.numbers.proofs.Values.{base_bounds, zeros_before, one_more, no_digit, too_large, quotient_above, quotient_within, digits_end}
 use Rattle.numbers.proofs.digits.long_digits.Goals as goal
-use Rattle.numbers.proofs.digits.long_digits.Goals.{After-base-base, After-quotient-most, At-loop-i, Else-most-value}
+use Rattle.numbers.proofs.digits.long_digits.Goals.{At-loop-i, Else-most-value}
 
 -- a base is not 0
-positive : (c : After-base-base) → 0 < c.base-base.result
-positive c = omega (arith, c.base-base.ensures, base_bounds c.args.radix)
+positive : (radix : Radix) (b : ℕ) → b ≡ base_of radix → 0 < b
+positive radix b e = omega (arith, e, base_bounds radix)
 
 -- the quotient is that of the base in hand, and a value up to it times the base is within the limit
-most-is : (c : After-quotient-most) → c.quotient-most.result ≡ c.args.limit / c.base-base.result
-most-is c = c.quotient-most.ensures ∙ ap (λ (b : ℕ). c.args.limit / b) (sym c.base-base.ensures)
+most_is : (radix : Radix) (b limit most : ℕ) → b ≡ base_of radix → most ≡ limit / base_of radix → most ≡ limit / b
+most_is radix b limit most e q = q ∙ ap (λ (d : ℕ). limit / d) (sym e)
 
 fits : (c : Else-most-value)
     → c.loop-i.value * c.base-base.result
     ≤ c.args.limit
 fits c =
-    quotient_within _ _ _ (positive c.After-base-base) (rw (most-is c.After-quotient-most) at c.if-most-value.false)
+    quotient_within _ _ _ (positive _ _ c.base-base.ensures) (rw (most_is _ _ _ _ c.base-base.ensures c.quotient-most.ensures) at c.if-most-value.false)
 
 -- what stands before the place after zeros
 pub loop-i-init : goal.loop-i-init
 loop-i-init c =
     let s = c.args.s.now in
     let zeros : c.after_zeros-i.result ≤ leading_zeros s = omega (arith, c.after_zeros-i.ensures) in
-    (omega (arith, zeros, leading-within is_zero s), omega arith, zeros_before c.base-base.result _ _ s (positive (goal.at.loop-i-init c).After-base-base) zeros)
+    (omega (arith, zeros, leading-within is_zero s), omega arith, zeros_before c.base-base.result _ _ s (positive _ _ c.base-base.ensures) zeros)
 
 -- what the definition gives from here on is what it gives of the text, in the radix's base
 gives : (c : At-loop-i) → let a = c.args in
@@ -45,8 +46,8 @@ returns-then-base-d c = sym (no_digit _ _ _ _ c.loop-i.i _ (search rules) c.digi
 
 pub returns-then-most-value : goal.returns-then-most-value
 returns-then-most-value c =
-    let p = positive (goal.at.returns-then-most-value c).After-base-base in
-    sym (too_large _ _ _ _ c.loop-i.i _ (search rules) c.digit-d.ensures p c.if-base-d.false (quotient_above _ _ _ _ p (rw (most-is (goal.at.returns-then-most-value c).After-quotient-most) at c.if-most-value.true))) ∙ gives (goal.at.returns-then-most-value c).At-loop-i
+    let p = positive _ _ c.base-base.ensures in
+    sym (too_large _ _ _ _ c.loop-i.i _ (search rules) c.digit-d.ensures p c.if-base-d.false (quotient_above _ _ _ _ p (rw (most_is _ _ _ _ c.base-base.ensures c.quotient-most.ensures) at c.if-most-value.true))) ∙ gives (goal.at.returns-then-most-value c).At-loop-i
 
 pub overflow_mul-shifted : goal.overflow_mul-shifted
 overflow_mul-shifted c = omega (arith, fits c)
@@ -56,7 +57,7 @@ overflow_sub-limit c = omega (arith, fits c)
 
 pub returns-then-limit-shifted : goal.returns-then-limit-shifted
 returns-then-limit-shifted c =
-    let p = positive (goal.at.returns-then-limit-shifted c).After-base-base in
+    let p = positive _ _ c.base-base.ensures in
     let k = fits (goal.at.returns-then-limit-shifted c).Else-most-value in
     sym (too_large _ _ _ _ c.loop-i.i _ (search rules) c.digit-d.ensures p c.if-base-d.false (omega arith)) ∙ gives (goal.at.returns-then-limit-shifted c).At-loop-i
 

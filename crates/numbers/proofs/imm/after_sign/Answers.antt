@@ -16,6 +16,9 @@ signed c = either_length (text "-") (text "+") _ refl (rw (c.first_is.ensures, c
 pub slice_bounds-result-count : goal.slice_bounds-result-count
 slice_bounds-result-count c = omega (arith, signed c)
 
+pub slice_bounds-result-start : goal.slice_bounds-result-start
+slice_bounds-result-start c = omega (arith, signed c)
+
 pub returns-then-first_is : goal.returns-then-first_is
 unfolding after_sign
 returns-then-first_is c = simp (← c.first_is.ensures, ← c.first_is-2.ensures, c.if-first_is.true, tail)

@@ -2,7 +2,7 @@
 use Prim.Native.Nat.{◌^◌}
 use mathlib.Core.Path.{◌≡◌, refl, sym, ◌∙◌}
 use mathlib.Core.Bool.{true, false}
-use lib.IntN.{pos, ◌-ℤ◌}
+use lib.IntN.{ℤ, pos, ◌-ℤ◌}
 use mir.Syntax.{w32, w64}
 use mir.Val.{SFits, to_z, of_z}
 use mir.Facts.{to_z-of_z, sfits_widen}
@@ -11,40 +11,40 @@ use Rattle.numbers.specs.Numbers.{imm_of}
 use Rattle.numbers.proofs.Integers.{signed32_fits, upper_fits}
 use borrow.Author.Rules.{rules}
 use Rattle.numbers.proofs.imm.parse_imm.Goals as goal
-use Rattle.numbers.proofs.imm.parse_imm.Goals.{Else-in_signed32, In-Value, Then-in_signed32, Then-in_unsigned32}
+use Rattle.numbers.proofs.imm.parse_imm.Goals.{Else-in_signed32, Then-in_signed32, Then-in_unsigned32}
 
 -- the machine reads the value back from its bits
-read : (c : In-Value) → to_z w64 (of_z w64 c.in-Value.v) ≡ c.in-Value.v
-read c = to_z-of_z (let f : SFits w64 c.in-Value.v = search rules in f)
+read : (v : ℤ) → SFits w64 v → to_z w64 (of_z w64 v) ≡ v
+read v f = to_z-of_z f
 
 signed : (c : Then-in_signed32) → is_signed32 c.in-Value.v ≡ true
-signed c = rw (read c.In-Value) at (sym c.in_signed32.ensures ∙ c.if-in_signed32.true)
+signed c = rw (read c.in-Value.v (search rules)) at (sym c.in_signed32.ensures ∙ c.if-in_signed32.true)
 
 narrow : (c : Then-in_signed32) → SFits w32 c.in-Value.v
 narrow c = signed32_fits _ (signed c)
 
 unsigned : (c : Else-in_signed32) → is_signed32 c.in-Value.v ≡ false
-unsigned c = rw (read c.In-Value) at (sym c.in_signed32.ensures ∙ c.if-in_signed32.false)
+unsigned c = rw (read c.in-Value.v (search rules)) at (sym c.in_signed32.ensures ∙ c.if-in_signed32.false)
 
 upper : (c : Then-in_unsigned32) → SFits w32 (c.in-Value.v -ℤ pos (2 ^ 32))
-upper c = upper_fits c.in-Value.v (unsigned c.Else-in_signed32) (rw (read c.In-Value) at (sym c.in_unsigned32.ensures ∙ c.if-in_unsigned32.true))
+upper c = upper_fits c.in-Value.v (rw (read c.in-Value.v (search rules)) at (sym c.in_signed32.ensures ∙ c.if-in_signed32.false)) (rw (read c.in-Value.v (search rules)) at (sym c.in_unsigned32.ensures ∙ c.if-in_unsigned32.true))
 
 pub returns-in_default : goal.returns-in_default
 unfolding imm_of
 returns-in_default c = rw (← c.parse_imm64.ensures, c.in_default.is) refl
 
 pub overflow_cast-result : goal.overflow_cast-result
-overflow_cast-result c = rw (read (goal.at.overflow_cast-result c).In-Value) (narrow c)
+overflow_cast-result c = rw (read c.in-Value.v (search rules)) (narrow c)
 
 pub returns-then-in_signed32 : goal.returns-then-in_signed32
 unfolding imm_of
-returns-then-in_signed32 c = rw (← c.parse_imm64.ensures, c.in-Value.is, read (goal.at.returns-then-in_signed32 c).In-Value, to_z-of_z (narrow c), signed c) refl
+returns-then-in_signed32 c = rw (← c.parse_imm64.ensures, c.in-Value.is, read c.in-Value.v (search rules), to_z-of_z (narrow c), signed c) refl
 
 pub overflow_sub-result : goal.overflow_sub-result
-overflow_sub-result c = rw (read (goal.at.overflow_sub-result c).In-Value) (sfits_widen tt (upper c))
+overflow_sub-result c = rw (read c.in-Value.v (search rules)) (sfits_widen tt (upper c))
 
 pub overflow_cast-result-then-in_unsigned32 : goal.overflow_cast-result-then-in_unsigned32
-overflow_cast-result-then-in_unsigned32 c = rw (read (goal.at.overflow_cast-result-then-in_unsigned32 c).In-Value, to_z-of_z (sfits_widen {w' = w64} tt (upper c))) (upper c)
+overflow_cast-result-then-in_unsigned32 c = rw (read c.in-Value.v (search rules), to_z-of_z (sfits_widen {w' = w64} tt (upper c))) (upper c)
 
 pub returns-then-in_unsigned32 : goal.returns-then-in_unsigned32
 unfolding imm_of
@@ -52,11 +52,11 @@ returns-then-in_unsigned32 c =
     rw (
       ← c.parse_imm64.ensures,
       c.in-Value.is,
-      read (goal.at.returns-then-in_unsigned32 c).In-Value,
+      read c.in-Value.v (search rules),
       to_z-of_z (sfits_widen {w' = w64} tt (upper c)),
       to_z-of_z (upper c),
       unsigned (goal.at.returns-then-in_unsigned32 c).Else-in_signed32,
-      rw (read (goal.at.returns-then-in_unsigned32 c).In-Value) at (sym c.in_unsigned32.ensures ∙ c.if-in_unsigned32.true),
+      rw (read c.in-Value.v (search rules)) at (sym c.in_unsigned32.ensures ∙ c.if-in_unsigned32.true),
     )
     refl
 
@@ -67,6 +67,6 @@ returns c =
       ← c.parse_imm64.ensures,
       c.in-Value.is,
       unsigned (goal.at.returns c).Else-in_signed32,
-      rw (read (goal.at.returns c).In-Value) at (sym c.in_unsigned32.ensures ∙ c.if-in_unsigned32.false),
+      rw (read c.in-Value.v (search rules)) at (sym c.in_unsigned32.ensures ∙ c.if-in_unsigned32.false),
     )
     refl

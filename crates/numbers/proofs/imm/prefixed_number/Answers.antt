@@ -18,5 +18,8 @@ found c = prefixed-by c.args.s.now c.prefix_of-prefix.result c.prefix_of-prefix.
 pub slice_bounds-signed_digits-count : goal.slice_bounds-signed_digits-count
 slice_bounds-signed_digits-count c = omega (arith, (found c).1)
 
+pub slice_bounds-signed_digits-start : goal.slice_bounds-signed_digits-start
+slice_bounds-signed_digits-start c = omega (arith, (found c).1)
+
 pub returns : goal.returns
 returns c = rw tail at c.signed_digits.ensures ∙ (found (goal.at.returns c).After-prefix_of-prefix).0

@@ -18,6 +18,9 @@ after_minus c = prefix_length (text "-") _ (sym c.first_is.ensures ∙ c.if-firs
 pub slice_bounds-negative-count : goal.slice_bounds-negative-count
 slice_bounds-negative-count c = omega (arith, after_minus c)
 
+pub slice_bounds-negative-start : goal.slice_bounds-negative-start
+slice_bounds-negative-start c = omega (arith, after_minus c)
+
 pub returns-then-first_is : goal.returns-then-first_is
 unfolding signed_digits
 returns-then-first_is c = simp (c.negative.ensures, c.if-first_is.true, ← c.first_is.ensures, tail)

@@ -11,6 +11,9 @@ use Rattle.numbers.proofs.literals.parse_str_lit.Goals.{Then-is_string}
 pub slice_bounds-t-count : goal.slice_bounds-t-count
 slice_bounds-t-count c = omega (arith, c.leading_spaces-start.ensures, leading-within is_space c.args.s.now)
 
+pub slice_bounds-t-start : goal.slice_bounds-t-start
+slice_bounds-t-start c = omega (arith, c.leading_spaces-start.ensures, leading-within is_space c.args.s.now)
+
 pub slice_bounds-is_string-end : goal.slice_bounds-is_string-end
 slice_bounds-is_string-end c = sym (length-take-le _ _ (rw c.trim_end_len-len.ensures (trim_end-within _)))
 

@@ -22,7 +22,7 @@ small c =
 
 -- and this is below 2^32
 value-small : (c : At-loop-i) → c.loop-i.value < 2 ^ 32
-value-small c = omega (arith, c.loop-i.invariant.2, small-base c.After-base-base)
+value-small c = omega (arith, c.loop-i.invariant.2, c.base-base.ensures, base_bounds c.args.radix)
 
 pub returns-then-b-i : goal.returns-then-b-i
 returns-then-b-i c =

@@ -33,7 +33,7 @@ overflow_add-first c =
 hex : (c : After-byte_at-2) (x : Bool) → c.byte_at-2.result ≡ x →
     starts_with (text "0x") (drop c.after_blanks-first.result c.args.s.now) ≡ x
 hex c x e =
-    hex_bytes c.args.s.now c.after_blanks-first.result x (zero c.Else-not-byte_at) (sym c.byte_at-2.ensures ∙ e)
+    hex_bytes c.args.s.now c.after_blanks-first.result x (sym c.byte_at.ensures ∙ not-false _ c.if-not-byte_at.false-raw) (sym c.byte_at-2.ensures ∙ e)
 
 pub overflow_add-first-then-byte_at : goal.overflow_add-first-then-byte_at
 overflow_add-first-then-byte_at c =

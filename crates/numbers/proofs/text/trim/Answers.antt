@@ -9,6 +9,9 @@ use Rattle.numbers.proofs.text.trim.Goals as goal
 pub slice_bounds-t-count : goal.slice_bounds-t-count
 slice_bounds-t-count c = omega (arith, c.leading_spaces-start.ensures, leading-within is_space c.args.s.now)
 
+pub slice_bounds-t-start : goal.slice_bounds-t-start
+slice_bounds-t-start c = omega (arith, c.leading_spaces-start.ensures, leading-within is_space c.args.s.now)
+
 pub slice_bounds-result-end : goal.slice_bounds-result-end
 slice_bounds-result-end c = sym (length-take-le _ _ (rw c.trim_end_len-len.ensures (trim_end-within _)))
 

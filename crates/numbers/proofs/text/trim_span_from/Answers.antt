@@ -9,6 +9,9 @@ use Rattle.numbers.proofs.text.trim_span_from.Goals as goal
 pub slice_bounds-trim_end_len-count : goal.slice_bounds-trim_end_len-count
 slice_bounds-trim_end_len-count c = omega (arith, c.requires, leading-within is_space c.args.s.now)
 
+pub slice_bounds-trim_end_len-start : goal.slice_bounds-trim_end_len-start
+slice_bounds-trim_end_len-start c = omega (arith, c.requires, leading-within is_space c.args.s.now)
+
 pub returns : goal.returns
 unfolding trim_span
 returns c = rw (c.trim_end_len-len.ensures, trim_steps c.args.s.now c.args.start c.requires, c.requires) refl
