@@ -49,8 +49,8 @@ right_by_eleven = ((λ e. omega arith), refl, refl)
 
 -- the lower part of 11 bits: 1,024 becomes -1,024
 pub eleven_bits : (lower_by 21 21 1024 ≡ lower_part 1024 → ⊥)
-    × (map encoding (pair_of (upper_part 1024) (lower_by 21 21 1024)) ≡ value 0x00000537 ∷ value 0x_c0050513 ∷ [])
-    × (run (0x00000537 ∷ 0x_c0050513 ∷ []) (replicate 32 0) ≡ loaded (2 ^ 32 - 1024))
+    × (map encoding (pair_of (upper_part 1024) (lower_by 21 21 1024)) ≡ value 0x00000537 ∷ value 0xC0050513 ∷ [])
+    × (run (0x00000537 ∷ 0xC0050513 ∷ []) (replicate 32 0) ≡ loaded (2 ^ 32 - 1024))
 eleven_bits = ((λ e. omega arith), refl, refl)
 
 -- shifted back by 11: 1 becomes 512

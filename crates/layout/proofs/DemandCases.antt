@@ -94,7 +94,7 @@ first_words_at t ns = mapped (λ l. map (λ n. word_from n l l.items) ns) (laid 
 pub item-cases :
     -- an li by name, whose upper part is 0; an li by its number; an la
     (laid_items (text "n = 5\nli a0, n\nli a1, 2048\nla a2, t\nt: nop")
-    ≡ value ((0x00000537 ∷ 0x00550513 ∷ []) ∷ (0x000015_b7 ∷ 0x80058593 ∷ []) ∷ (0x00000637 ∷ 0x01860613 ∷ []) ∷ (0 ∷ []) ∷ []))
+    ≡ value ((0x00000537 ∷ 0x00550513 ∷ []) ∷ (0x000015B7 ∷ 0x80058593 ∷ []) ∷ (0x00000637 ∷ 0x01860613 ∷ []) ∷ (0 ∷ []) ∷ []))
     -- an equate may be named as a number that `parse_imm` does not take: li then loads its value
     × (words_of (text ".equ 99999999999, 5\nli a0, 99999999999") ≡ value (0x00000537 ∷ 0x00550513 ∷ []))
     -- the first word at a line or below it: of an item at the line, of one below it, and behind all of them

@@ -34,7 +34,7 @@ abbrev address : ℕ → ℕ → ℕ → ℕ → List ℕ
 address a b c d = d ∷ c ∷ b ∷ a ∷ []
 
 abbrev negative : ℕ → List ℕ
-negative v = v ∷ 0x_ff ∷ 0x_ff ∷ 0x_ff ∷ 0x_ff ∷ 0x_ff ∷ 0x_ff ∷ 0x_ff ∷ []
+negative v = v ∷ 0xFF ∷ 0xFF ∷ 0xFF ∷ 0xFF ∷ 0xFF ∷ 0xFF ∷ 0xFF ∷ []
 
 -- so many words, and bytes for data, labels, equates and items
 abbrev lent : ℕ → ℕ → ℕ → ℕ → ℕ → Lent
@@ -52,43 +52,43 @@ pub record-cases :
       line = 0;
       counts = record { words = 7; data_bytes = 12; data_base = 0x81235560; bss_size = 11; labels = 7; equates = 3; items = 3; evaluations = 4 };
       buffers = record {
-        words = 0x3_e800893 ∷ 0x000_d0513 ∷ 0x00000073 ∷ 0x00000337 ∷ 0x_ffb30313 ∷ 0x_ffc10113 ∷ 0x01312023 ∷ 0 ∷ [];
-        data_bytes = 0x34 ∷ 0x12 ∷ 0x_dc ∷ 0x_fe ∷ 9 ∷ 0 ∷ 0 ∷ 0 ∷ 0x6_c ∷ 0x45 ∷ 0x23 ∷ 0x81 ∷ 0 ∷ [];
+        words = 0x3E800893 ∷ 0x000D0513 ∷ 0x00000073 ∷ 0x00000337 ∷ 0xFFB30313 ∷ 0xFFC10113 ∷ 0x01312023 ∷ 0 ∷ [];
+        data_bytes = 0x34 ∷ 0x12 ∷ 0xDC ∷ 0xFE ∷ 9 ∷ 0 ∷ 0 ∷ 0 ∷ 0x6C ∷ 0x45 ∷ 0x23 ∷ 0x81 ∷ 0 ∷ [];
         labels =
             small 5 ++ small 1 ++ address 0x81 0x23 0x45 0x60 ++ small 2
-            ++ small 22 ++ small 3 ++ address 0x81 0x23 0x45 0x6_c ++ small 4
-            ++ small 18 ++ small 2 ++ address 0x81 0x23 0x45 0x6_c ++ small 3
+            ++ small 22 ++ small 3 ++ address 0x81 0x23 0x45 0x6C ++ small 4
+            ++ small 18 ++ small 2 ++ address 0x81 0x23 0x45 0x6C ++ small 3
             ++ small 95 ++ small 2 ++ address 0x81 0x23 0x55 0x60 ++ small 11
             ++ small 137 ++ small 1 ++ address 0x81 0x23 0x55 0x68 ++ small 14
-            ++ small 154 ++ small 2 ++ address 0x81 0x23 0x55 0x6_c ++ small 16
+            ++ small 154 ++ small 2 ++ address 0x81 0x23 0x55 0x6C ++ small 16
             ++ small 166 ++ small 1 ++ address 0x81 0x23 0x55 0x71 ++ small 17
             ++ 0 ∷ 0 ∷ 0 ∷ [];
         equates =
-            small 47 ++ small 1 ++ small 7 ++ negative 0x_fb ++ small 2
-            ++ small 66 ++ small 2 ++ small 8 ++ negative 0x_fc ++ small 1
-            ++ small 77 ++ small 3 ++ small 9 ++ negative 0x_f9 ++ small 1
+            small 47 ++ small 1 ++ small 7 ++ negative 0xFB ++ small 2
+            ++ small 66 ++ small 2 ++ small 8 ++ negative 0xFC ++ small 1
+            ++ small 77 ++ small 3 ++ small 9 ++ negative 0xF9 ++ small 1
             ++ 0 ∷ 0 ∷ 0 ∷ 0 ∷ 0 ∷ [];
         items =
             address 0x81 0x23 0x45 0x60 ++ small 2 ++ small 5 ++ small 0 ++ small 8 ++ small 9
-            ++ address 0x81 0x23 0x45 0x6_c ++ small 4 ++ small 1 ++ small 3 ++ small 27 ++ small 8
+            ++ address 0x81 0x23 0x45 0x6C ++ small 4 ++ small 1 ++ small 3 ++ small 27 ++ small 8
             ++ address 0x81 0x23 0x45 0x74 ++ small 5 ++ small 3 ++ small 5 ++ small 37 ++ small 7
             ++ 0 ∷ 0 ∷ 0 ∷ 0 ∷ 0 ∷ [];
       };
     })
     -- an ordinary line, an empty label, and a label of the bss without data; no room for data or equates
-    × (call_of (text "nop\n  :la a0, x\n .bss\n.align 8\nx: .space 3") 0x7_ffff7_f4 (lent 4 0 33 0 49) ≡ record {
+    × (call_of (text "nop\n  :la a0, x\n .bss\n.align 8\nx: .space 3") 0x7FFFF7F4 (lent 4 0 33 0 49) ≡ record {
       number = 0;
       line = 0;
-      counts = record { words = 3; data_bytes = 0; data_base = 0x800007_f4; bss_size = 3; labels = 2; equates = 0; items = 2; evaluations = 0 };
+      counts = record { words = 3; data_bytes = 0; data_base = 0x800007F4; bss_size = 3; labels = 2; equates = 0; items = 2; evaluations = 0 };
       buffers = record {
-        words = 0 ∷ 0x80000537 ∷ 0x7_f450513 ∷ 0 ∷ [];
+        words = 0 ∷ 0x80000537 ∷ 0x7F450513 ∷ 0 ∷ [];
         data_bytes = [];
         labels =
-            small 6 ++ small 0 ++ address 0x7_f 0x_ff 0x_f7 0x_f8 ++ small 1 ++ small 31 ++ small 1 ++ address 0x80 0x00 0x07 0x_f4 ++ small 4 ++ 0 ∷ [];
+            small 6 ++ small 0 ++ address 0x7F 0xFF 0xF7 0xF8 ++ small 1 ++ small 31 ++ small 1 ++ address 0x80 0x00 0x07 0xF4 ++ small 4 ++ 0 ∷ [];
         equates = [];
         items =
-            address 0x7_f 0x_ff 0x_f7 0x_f4 ++ small 0 ++ small 0 ++ small 0 ++ small 0 ++ small 3
-            ++ address 0x7_f 0x_ff 0x_f7 0x_f8 ++ small 1 ++ small 2 ++ small 1 ++ small 7 ++ small 8 ++ 0 ∷ [];
+            address 0x7F 0xFF 0xF7 0xF4 ++ small 0 ++ small 0 ++ small 0 ++ small 0 ++ small 3
+            ++ address 0x7F 0xFF 0xF7 0xF8 ++ small 1 ++ small 2 ++ small 1 ++ small 7 ++ small 8 ++ 0 ∷ [];
       };
     })
     -- refused on line 1: all zeros
@@ -122,21 +122,21 @@ nine =
     text "li a0, 1\nla a0, s\npush a0\npop a0\nprint a0\nprint_str s\nread s\nread_byte s\nrandom a0\nli a0, 5000\nnop\ns:"
 
 pub pseudo-cases :
-    (words_at (text "li s3, -100000") ≡ value (0x_fffe89_b7 ∷ 0x96098993 ∷ []))
-    × (words_at (text "la s3, s") ≡ value (0x123479_b7 ∷ 0x80198993 ∷ []))
-    × (words_at (text "push s3") ≡ value (0x_ffc10113 ∷ 0x01312023 ∷ []))
+    (words_at (text "li s3, -100000") ≡ value (0xFFFE89B7 ∷ 0x96098993 ∷ []))
+    × (words_at (text "la s3, s") ≡ value (0x123479B7 ∷ 0x80198993 ∷ []))
+    × (words_at (text "push s3") ≡ value (0xFFC10113 ∷ 0x01312023 ∷ []))
     × (words_at (text "pop s3") ≡ value (0x00012983 ∷ 0x00410113 ∷ []))
-    × (words_at (text "print s3") ≡ value (0x3_e800893 ∷ 0x00098513 ∷ 0x00000073 ∷ []))
+    × (words_at (text "print s3") ≡ value (0x3E800893 ∷ 0x00098513 ∷ 0x00000073 ∷ []))
     × (words_at (text "print_str s") ≡ value (
-    0x123475_b7 ∷ 0x80158593 ∷ 0x00058613 ∷ 0x00064283 ∷ 0x00028663 ∷ 0x00160613 ∷ 0x_ff5_ff06_f ∷ 0x40_b60633 ∷ 0x00100513 ∷ 0x04000893 ∷
+    0x123475B7 ∷ 0x80158593 ∷ 0x00058613 ∷ 0x00064283 ∷ 0x00028663 ∷ 0x00160613 ∷ 0xFF5FF06F ∷ 0x40B60633 ∷ 0x00100513 ∷ 0x04000893 ∷
     0x00000073 ∷ []
     ))
-    × (words_at (text "read s") ≡ value (0x00000513 ∷ 0x123475_b7 ∷ 0x80158593 ∷ 0x10000613 ∷ 0x03_f00893 ∷ 0x00000073 ∷ []))
-    × (words_at (text "readByte s") ≡ value (0x3_f200893 ∷ 0x12347537 ∷ 0x80150513 ∷ 0x00000073 ∷ []))
+    × (words_at (text "read s") ≡ value (0x00000513 ∷ 0x123475B7 ∷ 0x80158593 ∷ 0x10000613 ∷ 0x03F00893 ∷ 0x00000073 ∷ []))
+    × (words_at (text "readByte s") ≡ value (0x3F200893 ∷ 0x12347537 ∷ 0x80150513 ∷ 0x00000073 ∷ []))
     × (words_at (text "random s3") ≡ value (
-    0x_ffc10113 ∷ 0x11600893 ∷ 0x00010513 ∷ 0x00400593 ∷ 0x00000613 ∷ 0x00000073 ∷ 0x00012983 ∷ 0x00410113 ∷ []
+    0xFFC10113 ∷ 0x11600893 ∷ 0x00010513 ∷ 0x00400593 ∷ 0x00000613 ∷ 0x00000073 ∷ 0x00012983 ∷ 0x00410113 ∷ []
     ))
-    × (words_at (text "li s3, n\nn = 70000") ≡ value (0x000119_b7 ∷ 0x17098993 ∷ []))
+    × (words_at (text "li s3, n\nn = 70000") ≡ value (0x000119B7 ∷ 0x17098993 ∷ []))
     -- ordinary lines: after a tab; a name that may not end the line
     × (words_at (text "push\ts3") ≡ value (0 ∷ []))
     × (words_at (text "random_bytes") ≡ value (0 ∷ []))
@@ -160,12 +160,12 @@ pub named-load-cases :
     -- "lui with the upper part, 0 included, then addi"
     (by_name (text "5") ≡ value (0x00000537 ∷ 0x00550513 ∷ []))
     × (by_name (text "0") ≡ value (0x00000537 ∷ 0x00050513 ∷ []))
-    × (by_name (text "-1") ≡ value (0x00000537 ∷ 0x_fff50513 ∷ []))
-    × (by_name (text "2047") ≡ value (0x00000537 ∷ 0x7_ff50513 ∷ []))
+    × (by_name (text "-1") ≡ value (0x00000537 ∷ 0xFFF50513 ∷ []))
+    × (by_name (text "2047") ≡ value (0x00000537 ∷ 0x7FF50513 ∷ []))
     × (by_name (text "2048") ≡ value (0x00001537 ∷ 0x80050513 ∷ []))
     × (by_name (text "-2048") ≡ value (0x00000537 ∷ 0x80050513 ∷ []))
-    × (by_name (text "-2049") ≡ value (0x_fffff537 ∷ 0x7_ff50513 ∷ []))
-    × (by_name (text "2147483647") ≡ value (0x80000537 ∷ 0x_fff50513 ∷ []))
+    × (by_name (text "-2049") ≡ value (0xFFFFF537 ∷ 0x7FF50513 ∷ []))
+    × (by_name (text "2147483647") ≡ value (0x80000537 ∷ 0xFFF50513 ∷ []))
     × (by_name (text "-2147483648") ≡ value (0x80000537 ∷ 0x00050513 ∷ []))
     × (words_at (text "n = 5\nli x0, n") ≡ value (0x00000037 ∷ 0x00500013 ∷ []))
     -- "An equate beyond 32 signed bits is still 19"
@@ -189,7 +189,7 @@ named-load-cases = (refl, refl, refl, refl, refl, refl, refl, refl, refl, refl, 
 pub read-back-cases :
     (let r : LabelRecord = record { start = 65535; len = 3; address = 0x81234560; line = 65536 } in
     label_record_at (replicate label_size 9 ++ field_bytes (label_fields r)) 1 ≡ r)
-    × (let r : EquateRecord = record { start = 65535; len = 3; line = 65536; value = negsuc 0x123456789_abcdef0; round = 255 } in
+    × (let r : EquateRecord = record { start = 65535; len = 3; line = 65536; value = negsuc 0x123456789ABCDEF0; round = 255 } in
     equate_record_at (replicate equate_size 9 ++ field_bytes (equate_fields r)) 1 ≡ r)
     × (let r : ItemRecord = record { address = 0x81234560; line = 65536; kind = 9; first = 16383; start = 65535; len = 3 } in
     item_record_at (replicate item_size 9 ++ field_bytes (item_fields r)) 1 ≡ r)
@@ -206,7 +206,7 @@ read-back-cases = (refl, refl, refl, refl, refl, refl)
 
 pub data-cases :
     (laid_data (text ".data\n.dword -2\n.string \"a b\"\n.ascii \"c\" ; \"\n.zero 2\n.byte 'd'\n.word -3")
-    ≡ value (0x_fe ∷ 0x_ff ∷ 0x_ff ∷ 0x_ff ∷ 0x_ff ∷ 0x_ff ∷ 0x_ff ∷ 0x_ff ∷ 97 ∷ 32 ∷ 98 ∷ 0 ∷ 99 ∷ 0 ∷ 0 ∷ 100 ∷ 0x_fd ∷ 0x_ff ∷ 0x_ff ∷ 0x_ff ∷ []))
+    ≡ value (0xFE ∷ 0xFF ∷ 0xFF ∷ 0xFF ∷ 0xFF ∷ 0xFF ∷ 0xFF ∷ 0xFF ∷ 97 ∷ 32 ∷ 98 ∷ 0 ∷ 99 ∷ 0 ∷ 0 ∷ 100 ∷ 0xFD ∷ 0xFF ∷ 0xFF ∷ 0xFF ∷ []))
     -- labels of data, bss and text, above and below
     × (laid_data (text "nop\nc:\n.section .rodata,x\na: .word b, 7, a, c\n.section sbss\n.skip 9\nb:")
     ≡ value (0x19 ∷ 0x10 ∷ 0 ∷ 0 ∷ 7 ∷ 0 ∷ 0 ∷ 0 ∷ 0 ∷ 0x10 ∷ 0 ∷ 0 ∷ 4 ∷ 0 ∷ 0 ∷ 0 ∷ []))
@@ -327,8 +327,8 @@ pub state-cases :
     (room_of (lent 99999 99999 99999 99999 99999) ≡ record { words = 16384; bytes = 65536; labels = 1024; equates = 256; items = 2048 })
     × (room_of (lent 9 10 47 71 95) ≡ record { words = 9; bytes = 10; labels = 2; equates = 2; items = 3 })
     -- 40, 41, 1
-    × (mapped (λ l. l.data_base) (layout_of (text "") 0x_ff000000 full) ≡ value 0x_ff001000)
-    × (layout_of (replicate 65537 128) 0x_ff000001 full ≡ no 40 0)
+    × (mapped (λ l. l.data_base) (layout_of (text "") 0xFF000000 full) ≡ value 0xFF001000)
+    × (layout_of (replicate 65537 128) 0xFF000001 full ≡ no 40 0)
     × (layout_of (replicate 65537 128) 0 full ≡ no 41 0)
     × (layout_of (10 ∷ replicate 65535 128) 0 full ≡ no 1 1)
     -- a string's 45, 9 and 42, by what it stands for with its 0

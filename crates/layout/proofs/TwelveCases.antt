@@ -34,16 +34,16 @@ pub twelve-cases :
     × ((call_of (text "") 0 full).counts
     ≡ record { words = 0; data_bytes = 0; data_base = 0x1000; bss_size = 0; labels = 0; equates = 0; items = 0; evaluations = 0 })
     -- 2
-    × (words_of (text "li a0, 2047") ≡ value (0x7_ff00513 ∷ []))
+    × (words_of (text "li a0, 2047") ≡ value (0x7FF00513 ∷ []))
     -- 3
     × (words_of (text "li a0, 2048") ≡ value (0x00001537 ∷ 0x80050513 ∷ []))
     -- 4
     × (words_of (text "li a0, 0x7FFFF800") ≡ value (0x80000537 ∷ 0x80050513 ∷ []))
     -- 5
-    × (words_of (text "li a0, 4294967295") ≡ value (0x_fff00513 ∷ []))
+    × (words_of (text "li a0, 4294967295") ≡ value (0xFFF00513 ∷ []))
     × (words_of (text "n = 4294967295\nli a0, n") ≡ no 19 1)
     -- 6
-    × (words_of (text "push ra") ≡ value (0x_ffc10113 ∷ 0x00112023 ∷ []))
+    × (words_of (text "push ra") ≡ value (0xFFC10113 ∷ 0x00112023 ∷ []))
     × (words_of (text "pop ra") ≡ value (0x00012083 ∷ 0x00410113 ∷ []))
     -- 7
     × (aligned 3 1 ≡ 1)

@@ -2,9 +2,9 @@
 use Rattle.std.specs.Prelude.{ℕ, ◌*◌, ◌/◌, min}
 use Rattle.layout.specs.declared.limits.Room.{Room}
 
--- "40 base above 0x_ff000000", "41 text above 65,536 bytes"
+-- "40 base above 0xFF000000", "41 text above 65,536 bytes"
 abbrev pub base_limit : ℕ
-base_limit = 0x_ff000000
+base_limit = 0xFF000000
 
 abbrev pub text_limit : ℕ
 text_limit = 65536

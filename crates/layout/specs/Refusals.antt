@@ -19,7 +19,7 @@ abbrev pub is_in : List ℕ → ℕ → Bool
 is_in [] n = false
 is_in (m ∷ ms) n = eqb m n || is_in ms n
 
--- "40 base above 0x_ff000000, line 0. 41 text above 65,536 bytes, line 0": of the call, and no line of the text
+-- "40 base above 0xFF000000, line 0. 41 text above 65,536 bytes, line 0": of the call, and no line of the text
 abbrev pub call_numbers : List ℕ
 call_numbers = 40 ∷ 41 ∷ []
 

@@ -1,5 +1,5 @@
 -- Instruction sequences in the code: an array of instructions with its count, and their words put into what is lent.
-use Rattle.std.specs.Borrow.{Bor}
+use Rattle.std.specs.Borrow.{MutBor}
 use denote.Triple.Both.{Both}
 use Rattle.std.specs.Prelude.{◌≡◌, ℕ, zero, suc, ◌+◌, List, [], ◌∷◌, ◌++◌, length, drop, replicate, slice_index_or, slice_set}
 use Rattle.numbers.specs.Results.{Result}
@@ -53,5 +53,5 @@ pub record WordsPut (d d' : List ℕ) (n : ℕ) (ws : List ℕ) : Type 0 where
   pub put : d' ≡ ws ++ drop n d
 
 -- how many words an answer says, and what is put, agree with what the instructions come to
-abbrev pub Puts : Both (Bor (List ℕ)) (Bor (List ℕ)) → Result ℕ ℕ → Result ℕ (List ℕ) → Type 0
+abbrev pub Puts : Both (MutBor (List ℕ)) (MutBor (List ℕ)) → Result ℕ ℕ → Result ℕ (List ℕ) → Type 0
 Puts d n x = Agrees (WordsPut d.entry.now d.exit.now) n x

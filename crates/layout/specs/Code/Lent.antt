@@ -25,7 +25,7 @@ use Rattle.layout.specs.Code.Stands.{start_counters, count_of, items_of, data_of
 
 -- bytes that are lent, and the same over a call
 abbrev pub LentSlice : Type 0
-LentSlice = Bor (List ℕ)
+LentSlice = MutBor (List ℕ)
 
 abbrev pub OverCall : Type 0
 OverCall = Both LentSlice LentSlice
