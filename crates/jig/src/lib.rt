@@ -52,9 +52,9 @@ pub extern "C" fn kodhlace_assemble(
     counts: &mut [u64],
 ) -> u32
     ensures { Called text.now base
-        (lengths (buffers_now words.entry data_bytes.entry labels.entry equates.entry items.entry))
+        (lengths (buffers_now words.old data_bytes.old labels.old equates.old items.old))
         (length counts.old) result counts.new
-        (buffers_now words.exit data_bytes.exit labels.exit equates.exit items.exit) }
+        (buffers_now words.new data_bytes.new labels.new equates.new items.new) }
 {
     let answer = assemble(text, base, words, data_bytes, labels, equates, items);
     put_numbers(counts, answer);

@@ -80,7 +80,7 @@ pub fn label_address(
     name: &[u8],
 ) -> Address
     requires { LabelsIndexed text.now labels.now index.now count }
-    ensures { WherePlaced text labels index count
+    ensures { WherePlaced text.now labels.now index.now count
         (λ base σ. address_found result ≡ label_address base σ name.now) }
 {
     let Lookup::At(k) = find_label(text, labels, index, count, name) else {
@@ -92,7 +92,7 @@ pub fn label_address(
 // Has a label the name?
 pub fn is_label(text: &[u8], labels: &[u8], index: &[u16], count: usize, name: &[u8]) -> bool
     requires { LabelsIndexed text.now labels.now index.now count }
-    ensures { WherePlaced text labels index count (λ base σ. result ≡ is_label name.now σ.labels) }
+    ensures { WherePlaced text.now labels.now index.now count (λ base σ. result ≡ is_label name.now σ.labels) }
 {
     match find_label(text, labels, index, count, name) {
         Lookup::At(_) => true,
@@ -109,7 +109,7 @@ pub fn spaced_address(
     operand: &[u8],
 ) -> Address
     requires { LabelsIndexed text.now labels.now index.now count }
-    ensures { WherePlaced text labels index count
+    ensures { WherePlaced text.now labels.now index.now count
         (λ base σ. address_found result ≡ label_address base σ (one_spaced operand.now)) }
 {
     let Lookup::At(k) = find_spaced(text, labels, count, operand) else {

@@ -121,8 +121,8 @@ fn emit_and_order(
     label_words: &mut [u8],
     words: &mut [u32],
 ) -> Laid
-    requires { ResolvedReady text base st evaluations labels label_index equates equate_index items label_words words }
-    ensures { ResolvedGive text base st evaluations labels label_index equates equate_index items label_words words result }
+    requires { ResolvedReady text.now base st evaluations labels.old label_index.now equates.now equate_index.now items.old label_words.old words.old }
+    ensures { ResolvedGive text.now base st evaluations labels label_index.now equates.now equate_index.now items label_words words result }
 {
     let rest = st.rest;
     let own = rest.own;
@@ -174,8 +174,8 @@ fn after_lines(
     label_words: &mut [u8],
     words: &mut [u32],
 ) -> Laid
-    requires { LinesReady text base st labels label_index equates exprs items data_bytes label_words words }
-    ensures { LinesGive text base st labels label_index equates exprs items data_bytes label_words words result }
+    requires { LinesReady text.now base st labels.old label_index.now equates.old exprs.now items.old data_bytes.old label_words.old words.old }
+    ensures { LinesGive text.now base st labels label_index.now equates exprs.now items data_bytes label_words words result }
 {
     // the index over equates, 1,024 buckets and an entry each, and how far each one's sum has come, two numbers each
     let mut equate_index = [0u16; 1280];
@@ -221,9 +221,9 @@ fn lay_lines(
     items: &mut [u8],
 ) -> Laid
     requires { (base ≤ base_limit) × (length text.now ≤ text_limit)
-        × Clear words × Clear data_bytes × Clear labels × Clear equates × Clear items }
-    ensures { Agrees (LaidLeft (buffers_now words.exit data_bytes.exit labels.exit equates.exit items.exit)) (laid_of result)
-        (lines_of text.now base (lengths (buffers_now words.entry data_bytes.entry labels.entry equates.entry items.entry))) }
+        × Clear words.old × Clear data_bytes.old × Clear labels.old × Clear equates.old × Clear items.old }
+    ensures { Agrees (LaidLeft (buffers_now words.new data_bytes.new labels.new equates.new items.new)) (laid_of result)
+        (lines_of text.now base (lengths (buffers_now words.old data_bytes.old labels.old equates.old items.old))) }
 {
     // the stage's own tables, as large as their limits ask: the index over labels, expressions, label words
     let mut label_index = [0u16; 2048];
@@ -274,9 +274,9 @@ fn lay_out(
     equates: &mut [u8],
     items: &mut [u8],
 ) -> Laid
-    requires { Clear words × Clear data_bytes × Clear labels × Clear equates × Clear items }
-    ensures { Agrees (LaidLeft (buffers_now words.exit data_bytes.exit labels.exit equates.exit items.exit)) (laid_of result)
-        (layout_of text.now base (lengths (buffers_now words.entry data_bytes.entry labels.entry equates.entry items.entry))) }
+    requires { Clear words.old × Clear data_bytes.old × Clear labels.old × Clear equates.old × Clear items.old }
+    ensures { Agrees (LaidLeft (buffers_now words.new data_bytes.new labels.new equates.new items.new)) (laid_of result)
+        (layout_of text.now base (lengths (buffers_now words.old data_bytes.old labels.old equates.old items.old))) }
 {
     if BASE_LIMIT < base {
         return Laid::Refused(40, 0);
@@ -356,8 +356,8 @@ pub fn assemble(
     items: &mut [u8],
 ) -> Answer
     ensures { Assembled text.now base
-        (lengths (buffers_now words.entry data_bytes.entry labels.entry equates.entry items.entry))
-        (answer_in result (buffers_now words.exit data_bytes.exit labels.exit equates.exit items.exit)) }
+        (lengths (buffers_now words.old data_bytes.old labels.old equates.old items.old))
+        (answer_in result (buffers_now words.new data_bytes.new labels.new equates.new items.new)) }
 {
     clear(words, data_bytes, labels, equates, items);
     match lay_out(text, base, words, data_bytes, labels, equates, items) {

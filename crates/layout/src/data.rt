@@ -251,9 +251,9 @@ fn add_label_word(
     at: usize,
     write: Write,
 ) -> Count
-    requires { LabelWordsReady text label_words count × LineIn text.now line
+    requires { LabelWordsReady text.now label_words.old count × LineIn text.now line
         × WriteFits text.now write × (at ≤ data_limit) }
-    ensures { LabelWordsSteps text label_words count result
+    ensures { LabelWordsSteps text.now label_words count result
         (add_label_word line at (write_at text.now write)) }
 {
     let Write::Address(name) = write else {
@@ -282,9 +282,9 @@ fn data_write(
     line: u32,
     write: Write,
 ) -> DataStep
-    requires { DataReady text data_bytes label_words room st × LineIn text.now line
+    requires { DataReady text.now data_bytes.old label_words.old room st × LineIn text.now line
         × WriteFits text.now write }
-    ensures { DataSteps text data_bytes label_words room st result
+    ensures { DataSteps text.now data_bytes label_words room st result
         (data_write room line (write_at text.now write)) }
 {
     let at = st.bytes;
@@ -389,9 +389,9 @@ pub fn data_line(
     source: Source,
     part: Span,
 ) -> DataStep
-    requires { DataReady text data_bytes label_words room st × LineIn text.now line
+    requires { DataReady text.now data_bytes.old label_words.old room st × LineIn text.now line
         × SpanWithin text.now part × SourceFits source }
-    ensures { DataSteps text data_bytes label_words room st result
+    ensures { DataSteps text.now data_bytes label_words room st result
         (data_line room line (source_readings source (spanned text.now part))) }
 {
     let readings = readings_of(text, source, part);

@@ -57,9 +57,9 @@ fn emit_pseudo(
     s: &[u8],
     dst: &mut [u32],
 ) -> Count
-    requires { NamesReady text labels label_index label_count equates equate_index equate_count
+    requires { NamesReady text.now labels.now label_index.now label_count equates.now equate_index.now equate_count
         × (pseudo_words «pseudo» s.now ≤ length dst.old) }
-    ensures { NamesKnown text labels label_index label_count equates equate_index equate_count
+    ensures { NamesKnown text.now labels.now label_index.now label_count equates.now equate_index.now equate_count
         (λ names. Puts dst (count_of result) (emission_in names (some «pseudo») s.now)) }
 {
     match look_up(
@@ -90,9 +90,9 @@ fn emit_line(
     kind: LineKind,
     dst: &mut [u32],
 ) -> Count
-    requires { NamesReady text labels label_index label_count equates equate_index equate_count
+    requires { NamesReady text.now labels.now label_index.now label_count equates.now equate_index.now equate_count
         × (reserved_words (kind_item kind) (spanned text.now (kind_source kind)) ≤ length dst.old) }
-    ensures { NamesKnown text labels label_index label_count equates equate_index equate_count
+    ensures { NamesKnown text.now labels.now label_index.now label_count equates.now equate_index.now equate_count
         (λ names. Puts dst (count_of result) (emission_in names (kind_item kind) (spanned text.now (kind_source kind)))) }
 {
     match kind {
@@ -124,9 +124,9 @@ fn emit_item(
     item: ItemRecord,
     dst: &mut [u32],
 ) -> Count
-    requires { NamesReady text labels label_index label_count equates equate_index equate_count
+    requires { NamesReady text.now labels.now label_index.now label_count equates.now equate_index.now equate_count
         × Some (ItemRecordFits text.now (length dst.old) item) }
-    ensures { NamesKnown text labels label_index label_count equates equate_index equate_count
+    ensures { NamesKnown text.now labels.now label_index.now label_count equates.now equate_index.now equate_count
         (λ names. (x : Option code.Pseudo) → item.kind ≡ item_kind x
         → Puts dst (count_of result) (emission_in names x (spanned text.now (source_span item)))) }
 {
@@ -162,8 +162,8 @@ pub fn emit_items(
     count: usize,
     words: &mut [u32],
 ) -> Total
-    requires { EmitReady text labels label_index label_count equates equate_index equate_count starts items count words }
-    ensures { Emits text labels label_index label_count equates equate_index equate_count starts items count words result }
+    requires { EmitReady text.now labels.now label_index.now label_count equates.now equate_index.now equate_count starts items.old count words.old }
+    ensures { Emits text.now labels.now label_index.now label_count equates.now equate_index.now equate_count starts items count words result }
 {
     let mut at = 0;
     let mut k = 0;

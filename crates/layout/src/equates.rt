@@ -31,9 +31,9 @@ pub fn add_equate(
     line: u32,
     parts: EquateParts,
 ) -> Count
-    requires { EquatesReady text equates exprs room count × PlaceFits place
+    requires { EquatesReady text.now equates.old exprs.old room count × PlaceFits place
         × LineIn text.now line × SpanWithin text.now parts.name × SpanWithin text.now parts.expr }
-    ensures { EquatesSteps text equates exprs room count result
+    ensures { EquatesSteps text.now equates exprs room count result
         (add_equate room (equate_at text.now place line parts)) }
 {
     if room.equates <= count {

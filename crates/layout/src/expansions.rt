@@ -35,7 +35,7 @@ fn operand_address(
     operand: &[u8],
 ) -> Address
     requires { LabelsIndexed text.now labels.now index.now count }
-    ensures { WherePlaced text labels index count
+    ensures { WherePlaced text.now labels.now index.now count
         (λ base σ. address_found result ≡ label_address base σ (one_spaced operand.now)) }
 {
     if word_len(operand) == operand.len() {
@@ -53,7 +53,7 @@ fn operand_constant(
     operand: &[u8],
 ) -> Value
     requires { Some (EquateTable text.now equates.now index.now count) }
-    ensures { WhereKnown text equates index count (λ ks. value_of result ≡ constant ks (one_spaced operand.now)) }
+    ensures { WhereKnown text.now equates.now index.now count (λ ks. value_of result ≡ constant ks (one_spaced operand.now)) }
 {
     if word_len(operand) == operand.len() {
         return constant(text, equates, index, count, operand);
@@ -64,7 +64,7 @@ fn operand_constant(
 // The same where 32 signed bits hold it. What begins with a quote is no name.
 fn li_constant(text: &[u8], equates: &[u8], index: &[u16], count: usize, operand: &[u8]) -> Imm
     requires { Some (EquateTable text.now equates.now index.now count) }
-    ensures { WhereKnown text equates index count (λ ks. constant_read result ≡ li_constant (constant ks) (one_spaced operand.now)) }
+    ensures { WhereKnown text.now equates.now index.now count (λ ks. constant_read result ≡ li_constant (constant ks) (one_spaced operand.now)) }
 {
     if first_is(operand, b'\'') {
         return Imm::Invalid;
@@ -113,7 +113,7 @@ fn equate_arguments(
     operand: &[u8],
 ) -> LookedUp
     requires { Some (EquateTable text.now equates.now index.now count) }
-    ensures { WhereKnown text equates index count
+    ensures { WhereKnown text.now equates.now index.now count
         (λ ks. looked_up_as result ≡ mapped (li_load (is_single none) rd.0) (li_constant (constant ks) (one_spaced operand.now))) }
 {
     let Imm::Value(v) = li_constant(text, equates, index, count, operand) else {
@@ -132,7 +132,7 @@ fn label_arguments(
     operand: &[u8],
 ) -> LookedUp
     requires { LabelsIndexed text.now labels.now index.now count }
-    ensures { WherePlaced text labels index count
+    ensures { WherePlaced text.now labels.now index.now count
         (λ base σ. looked_up_as result ≡ or_refuse 20 (label_address base σ (one_spaced operand.now)) (λ n. value (word rd.0 n))) }
 {
     let Address::At(a) = operand_address(text, labels, index, count, operand) else {
@@ -153,8 +153,8 @@ pub fn look_up(
     s: &[u8],
     wanted: Wanted,
 ) -> LookedUp
-    requires { NamesReady text labels label_index label_count equates equate_index equate_count }
-    ensures { NamesKnown text labels label_index label_count equates equate_index equate_count
+    requires { NamesReady text.now labels.now label_index.now label_count equates.now equate_index.now equate_count }
+    ensures { NamesKnown text.now labels.now label_index.now label_count equates.now equate_index.now equate_count
         (λ names. looked_up_as result ≡ and_then (wanted_of s.now wanted) (looked_up_in names)) }
 {
     match wanted {

@@ -108,8 +108,8 @@ fn name_value(
     equate_count: usize,
     name: &[u8],
 ) -> Value
-    requires { NamesReady text labels label_index label_count equates equate_index equate_count }
-    ensures { NamesKnown text labels label_index label_count equates equate_index equate_count
+    requires { NamesReady text.now labels.now label_index.now label_count equates.now equate_index.now equate_count }
+    ensures { NamesKnown text.now labels.now label_index.now label_count equates.now equate_index.now equate_count
         (λ names. value_of result ≡ look_in names name.now) }
 {
     match constant(text, equates, equate_index, equate_count, name) {
@@ -134,8 +134,8 @@ fn term_value(
     here: u32,
     token: Token,
 ) -> Value
-    requires { NamesReady text labels label_index label_count equates equate_index equate_count }
-    ensures { NamesKnown text labels label_index label_count equates equate_index equate_count
+    requires { NamesReady text.now labels.now label_index.now label_count equates.now equate_index.now equate_count }
+    ensures { NamesKnown text.now labels.now label_index.now label_count equates.now equate_index.now equate_count
         (λ names. value_of result ≡ term_value (look_in names) (pos here) (token_of s.now token)) }
 {
     match token {
@@ -216,8 +216,8 @@ pub fn sum_terms(
     here: u32,
     from: Partial,
 ) -> Evaluated
-    requires { NamesReady text labels label_index label_count equates equate_index equate_count }
-    ensures { NamesKnown text labels label_index label_count equates equate_index equate_count
+    requires { NamesReady text.now labels.now label_index.now label_count equates.now equate_index.now equate_count }
+    ensures { NamesKnown text.now labels.now label_index.now label_count equates.now equate_index.now equate_count
         (λ names. Evaluates (look_in names) one_space s.now (pos here) (sum_on one_space s.now (pos here) from) result) }
 {
     let mut sum = from.sum;
@@ -272,8 +272,8 @@ pub fn eval_expr(
     one_space: bool,
     here: u32,
 ) -> Evaluated
-    requires { NamesReady text labels label_index label_count equates equate_index equate_count }
-    ensures { NamesKnown text labels label_index label_count equates equate_index equate_count
+    requires { NamesReady text.now labels.now label_index.now label_count equates.now equate_index.now equate_count }
+    ensures { NamesKnown text.now labels.now label_index.now label_count equates.now equate_index.now equate_count
         (λ names. Evaluates (look_in names) one_space s.now (pos here) (evaluation_of one_space s.now (pos here)) result) }
 {
     let answer = sum_terms(

@@ -17,8 +17,8 @@ pub fn fill_label_words(
     words: usize,
     data_bytes: &mut [u8],
 ) -> Total
-    requires { FillReady text labels index count label_words words data_bytes }
-    ensures { Fills text labels index count label_words words data_bytes result }
+    requires { FillReady text.now labels.now index.now count label_words.now words data_bytes.old }
+    ensures { Fills text.now labels.now index.now count label_words.now words data_bytes result }
 {
     let mut k = 0;
     while k < words {

@@ -21,8 +21,8 @@ fn add_item(
     line: u32,
     kind: LineKind,
 ) -> ItemStep
-    requires { ItemsReady text items room st × LineIn text.now line × SpanWithin text.now (kind_source kind) }
-    ensures { ItemsSteps text items room st result
+    requires { ItemsReady text.now items.old room st × LineIn text.now line × SpanWithin text.now (kind_source kind) }
+    ensures { ItemsSteps text.now items room st result
         (add_item room line (kind_item kind) (piece_at text.now (kind_source kind))) }
 {
     let count = st.items;
@@ -59,9 +59,9 @@ pub fn text_line(
     line: u32,
     source: Span,
 ) -> ItemStep
-    requires { ItemsReady text items room st × LineIn text.now line × SpanWithin text.now source
+    requires { ItemsReady text.now items.old room st × LineIn text.now line × SpanWithin text.now source
         × PseudoNames names.now }
-    ensures { ItemsSteps text items room st result
+    ensures { ItemsSteps text.now items room st result
         (text_line room line (piece_at text.now source) (item_of (spanned text.now source))) }
 {
     match kind_of(names, text, source) {

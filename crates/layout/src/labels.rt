@@ -102,9 +102,9 @@ fn add_label(
     line: u32,
     name: Span,
 ) -> Count
-    requires { LabelsReady text labels index room count × PlaceFits place × LineIn text.now line
+    requires { LabelsReady text.now labels.old index.old room count × PlaceFits place × LineIn text.now line
         × SpanWithin text.now name }
-    ensures { LabelsSteps text labels index room count result
+    ensures { LabelsSteps text.now labels index room count result
         (add_label room (record { name = piece_at text.now name; place = place; line = line })) }
 {
     let label = LabelRecord {
@@ -142,9 +142,9 @@ pub fn label_step(
     line: u32,
     label: LabelPart,
 ) -> Count
-    requires { LabelsReady text labels index room count × PlaceFits place × LineIn text.now line
+    requires { LabelsReady text.now labels.old index.old room count × PlaceFits place × LineIn text.now line
         × LabelWithin text.now label }
-    ensures { LabelsSteps text labels index room count result
+    ensures { LabelsSteps text.now labels index room count result
         (label_step room place line (label_part_at text.now label)) }
 {
     match label {

@@ -47,8 +47,8 @@ pub fn turn(
     exprs: &[u8],
     k: usize,
 ) -> Evaluated
-    requires { TurnReady text labels label_index label_count starts equates equate_index equate_count exprs × (k < equate_count) }
-    ensures { TurnKnown text labels label_index label_count starts equates equate_index equate_count exprs
+    requires { TurnReady text.now labels.now label_index.now label_count starts equates.now equate_index.now equate_count exprs.now × (k < equate_count) }
+    ensures { TurnKnown text.now labels.now label_index.now label_count starts equates.now equate_index.now equate_count exprs.now
         (λ names. TurnGives names (equate_in names k) result) }
 {
     let name = equate_name(text, equates, k);
@@ -91,8 +91,8 @@ fn turn_again(
     k: usize,
     from: Partial,
 ) -> Evaluated
-    requires { AgainReady text labels label_index label_count starts equates equate_index equate_count exprs 2 k from × (k < equate_count) }
-    ensures { AgainKnown text labels label_index label_count starts equates equate_index equate_count exprs 2 k from
+    requires { AgainReady text.now labels.now label_index.now label_count starts equates.now equate_index.now equate_count exprs.now 2 k from × (k < equate_count) }
+    ensures { AgainKnown text.now labels.now label_index.now label_count starts equates.now equate_index.now equate_count exprs.now 2 k from
         (λ names. TurnGives names (equate_in names k) result) }
 {
     let name = equate_name(text, equates, k);
@@ -134,8 +134,8 @@ fn turn_in(
     from: Partial,
     round: u32,
 ) -> Evaluated
-    requires { AgainReady text labels label_index label_count starts equates equate_index equate_count exprs round k from × (k < equate_count) }
-    ensures { AgainKnown text labels label_index label_count starts equates equate_index equate_count exprs round k from
+    requires { AgainReady text.now labels.now label_index.now label_count starts equates.now equate_index.now equate_count exprs.now round k from × (k < equate_count) }
+    ensures { AgainKnown text.now labels.now label_index.now label_count starts equates.now equate_index.now equate_count exprs.now round k from
         (λ names. TurnGives names (equate_in names k) result) }
 {
     if round == 1 {
@@ -183,8 +183,8 @@ fn evaluate(
     round: u32,
     evaluations: usize,
 ) -> Evaluation
-    requires { AgainReady text labels label_index label_count starts equates equate_index equate_count exprs round k from × (k < equate_count) × (evaluations < 2 ^ 64 - 1) }
-    ensures { AgainKnown text labels label_index label_count starts equates equate_index equate_count exprs round k from
+    requires { AgainReady text.now labels.now label_index.now label_count starts equates.now equate_index.now equate_count exprs.now round k from × (k < equate_count) × (evaluations < 2 ^ 64 - 1) }
+    ensures { AgainKnown text.now labels.now label_index.now label_count starts equates.now equate_index.now equate_count exprs.now round k from
         (λ names. EvaluationGives names (equate_in names k) evaluations result) }
 {
     Evaluation {
@@ -285,8 +285,8 @@ pub fn resolve(
     exprs: &[u8],
     partials: &mut [u64],
 ) -> Total
-    requires { ResolveReady text labels label_index label_count starts equates equate_index count exprs partials }
-    ensures { Resolves text labels label_index label_count starts equates equate_index count exprs partials result }
+    requires { ResolveReady text.now labels.now label_index.now label_count starts equates.old equate_index.now count exprs.now partials.old }
+    ensures { Resolves text.now labels.now label_index.now label_count starts equates equate_index.now count exprs.now partials result }
 {
     let mut evaluations = 0;
     let mut pending = count;

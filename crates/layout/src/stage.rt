@@ -44,9 +44,9 @@ fn own_line(
     line: u32,
     statement: OwnStatement,
 ) -> OwnStep
-    requires { OwnReady text items data_bytes label_words room st × LineIn text.now line
+    requires { OwnReady text.now items.old data_bytes.old label_words.old room st × LineIn text.now line
         × OwnWithin text.now statement × PseudoNames pseudos.now }
-    ensures { OwnSteps text items data_bytes label_words room st result
+    ensures { OwnSteps text.now items data_bytes label_words room st result
         (own_line room line (own_at text.now statement)) }
 {
     let section = st.section;
@@ -111,9 +111,9 @@ fn statement_step(
     line: u32,
     statement: Statement,
 ) -> RestStep
-    requires { RestReady text equates exprs items data_bytes label_words room st
+    requires { RestReady text.now equates.old exprs.old items.old data_bytes.old label_words.old room st
         × LineIn text.now line × StatementWithin text.now statement × PseudoNames pseudos.now }
-    ensures { RestSteps text equates exprs items data_bytes label_words room st result
+    ensures { RestSteps text.now equates exprs items data_bytes label_words room st result
         (λ σ. and_then (statement_at text.now statement) (λ s. statement_step room line s σ)) }
 {
     let count = st.equates;
@@ -168,10 +168,10 @@ fn step_line(
     st: Counters,
     line: u32,
 ) -> Step
-    requires { StageReady text labels index equates exprs items data_bytes label_words room st
+    requires { StageReady text.now labels.old index.old equates.old exprs.old items.old data_bytes.old label_words.old room st
         × LineIn text.now line × LineCut text.now cut
         × DirectiveNames directives.now × PseudoNames pseudos.now }
-    ensures { StageSteps text labels index equates exprs items data_bytes label_words room st result
+    ensures { StageSteps text.now labels index equates exprs items data_bytes label_words room st result
         (step_line room line (cut_line text.now cut)) }
 {
     let rest = st.rest;
@@ -225,8 +225,8 @@ pub fn line_stage(
     label_words: &mut [u8],
     room: Room,
 ) -> Stage
-    requires { (length text.now ≤ text_limit) × StageStarts text labels index equates exprs items data_bytes label_words room }
-    ensures { StageGives text labels index equates exprs items data_bytes label_words room result
+    requires { (length text.now ≤ text_limit) × StageStarts text.now labels.old index.old equates.old exprs.old items.old data_bytes.old label_words.old room }
+    ensures { StageGives text.now labels index equates exprs items data_bytes label_words room result
         (line_stage room 0 (line_pieces 0 (lines text.now)) start) }
 {
     let directives = directives::NAMES;

@@ -21,8 +21,8 @@ pub fn resolve_symbols(
     data_bytes: &mut [u8],
     label_words: &[u8],
 ) -> Total
-    requires { SymbolsReady text base st labels label_index equates equate_index exprs partials data_bytes label_words }
-    ensures { SymbolsResolve text base st labels label_index equates equate_index exprs partials data_bytes label_words result }
+    requires { SymbolsReady text.now base st labels.old label_index.now equates.old equate_index.old exprs.now partials.old data_bytes.old label_words.now }
+    ensures { SymbolsResolve text.now base st labels label_index.now equates equate_index exprs.now partials data_bytes label_words.now result }
 {
     let rest = st.rest;
     let own = rest.own;

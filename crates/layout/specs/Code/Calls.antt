@@ -16,7 +16,7 @@ use Rattle.layout.specs.Stage.{line_stage}
 use Rattle.layout.specs.Layouts.{Layout, after_lines, Counts, Buffers, Answer, counts_of, buffers_of}
 use Rattle.layout.specs.Code.Steps.{Agrees}
 use Rattle.layout.specs.Code.Stands.{Stands, store}
-use Rattle.layout.specs.Code.Lent.{LentSlice, OverCall}
+use Rattle.layout.specs.Code.Lent.{OverCall}
 use Rattle.layout.specs.Code.Symbols.{symbols_of, SymbolsLeft}
 
 -- ---- the answer as the definitions have it
@@ -62,8 +62,8 @@ refused_answer n line =
     }
 
 -- the lent buffers when the call begins and when it ends
-abbrev pub buffers_now : LentSlice → LentSlice → LentSlice → LentSlice → LentSlice → Buffers
-buffers_now w d l e i = buffers w.now d.now l.now e.now i.now
+abbrev pub buffers_now : List ℕ → List ℕ → List ℕ → List ℕ → List ℕ → Buffers
+buffers_now w d l e i = buffers w d l e i
 
 -- ---- the stages
 
@@ -91,15 +91,15 @@ pub record LinesRead (t : List ℕ) (base : ℕ) (st : Counters) (l n e x i d lw
   pub zeros : w ≡ replicate (length w) 0
   pub lent : room.words ≤ length w
 
-abbrev pub LinesReady : LentSlice → ℕ → Counters → LentSlice → LentSlice → LentSlice → LentSlice → LentSlice → LentSlice → LentSlice → LentSlice
+abbrev pub LinesReady : List ℕ → ℕ → Counters → List ℕ → List ℕ → List ℕ → List ℕ → List ℕ → List ℕ → List ℕ → List ℕ
     → Type 0
-LinesReady t base st l n e x i d lw w = LinesRead t.now base st l.now n.now e.now x.now i.now d.now lw.now w.now
+LinesReady t base st l n e x i d lw w = LinesRead t base st l n e x i d lw w
 
 -- whatever the lines came to, what follows them agrees with the definition
-abbrev pub LinesGive : OverCall → ℕ → Counters → OverCall → OverCall → OverCall → OverCall → OverCall → OverCall → OverCall → OverCall → Laid → Type 0
+abbrev pub LinesGive : List ℕ → ℕ → Counters → OverCall → List ℕ → OverCall → List ℕ → OverCall → OverCall → OverCall → OverCall → Laid → Type 0
 LinesGive t base st l n e x i d lw w r =
-    (s : LinesReady t.entry base st l.entry n.entry e.entry x.entry i.entry d.entry lw.entry w.entry)
-    → Agrees (LaidLeft (buffers_now w.exit d.exit l.exit e.exit i.exit)) (laid_of r) (after_lines base s.state)
+    (s : LinesReady t base st l.entry.now n e.entry.now x i.entry.now d.entry.now lw.entry.now w.entry.now)
+    → Agrees (LaidLeft (buffers_now w.exit.now d.exit.now l.exit.now e.exit.now i.exit.now)) (laid_of r) (after_lines base s.state)
 
 -- what resolving the symbols left of what the lines left: labels and equates, and the data, which are lent no more
 pub record ResolvedRead (t : List ℕ) (base : ℕ) (st : Counters) (m : ℕ) (l n e ix i lw w : List ℕ) : Type 0 where
@@ -111,20 +111,20 @@ pub record ResolvedRead (t : List ℕ) (base : ℕ) (st : Counters) (m : ℕ) (l
   pub read : LinesRead t base st unplaced n pending exprs i unfilled lw w
   pub found : Agrees (SymbolsLeft t base read.state st l n e ix filled) (value m) (symbols_of base read.state)
 
-abbrev pub ResolvedReady : LentSlice → ℕ → Counters → ℕ → LentSlice → LentSlice → LentSlice → LentSlice → LentSlice → LentSlice → LentSlice → Type 0
-ResolvedReady t base st m l n e ix i lw w = ResolvedRead t.now base st m l.now n.now e.now ix.now i.now lw.now w.now
+abbrev pub ResolvedReady : List ℕ → ℕ → Counters → ℕ → List ℕ → List ℕ → List ℕ → List ℕ → List ℕ → List ℕ → List ℕ → Type 0
+ResolvedReady t base st m l n e ix i lw w = ResolvedRead t base st m l n e ix i lw w
 
 -- whatever the lines and the symbols came to, what follows them agrees with the definition
-abbrev pub ResolvedGive : OverCall → ℕ → Counters → ℕ → OverCall → OverCall → OverCall → OverCall → OverCall → OverCall → OverCall → Laid → Type 0
+abbrev pub ResolvedGive : List ℕ → ℕ → Counters → ℕ → OverCall → List ℕ → List ℕ → List ℕ → OverCall → OverCall → OverCall → Laid → Type 0
 ResolvedGive t base st m l n e ix i lw w r =
-    (s : ResolvedReady t.entry base st m l.entry n.entry e.entry ix.entry i.entry lw.entry w.entry)
-    → Agrees (LaidLeft (buffers w.exit.now s.filled l.exit.now e.entry.now i.exit.now)) (laid_of r)
+    (s : ResolvedReady t base st m l.entry.now n e ix i.entry.now lw.entry.now w.entry.now)
+    → Agrees (LaidLeft (buffers w.exit.now s.filled l.exit.now e i.exit.now)) (laid_of r)
     (after_lines base s.read.state)
 
 -- ---- clearing
 
-abbrev pub Clear : LentSlice → Type 0
-Clear b = b.now ≡ replicate (length b.now) 0
+abbrev pub Clear : List ℕ → Type 0
+Clear b = b ≡ replicate (length b) 0
 
 abbrev pub Clears : OverCall → Type 0
 Clears b = b.exit.now ≡ replicate (length b.entry.now) 0

@@ -12,7 +12,7 @@ use Rattle.layout.specs.Rounds.{constant}
 use Rattle.layout.specs.Layouts.{item_row, Emitted, emit}
 use Rattle.layout.specs.Code.Steps.{Agrees}
 use Rattle.layout.specs.Code.Stands.{ItemsStand, total_of}
-use Rattle.layout.specs.Code.Lent.{LentSlice, OverCall}
+use Rattle.layout.specs.Code.Lent.{OverCall}
 use Rattle.layout.specs.Code.Placed.{StartsAt}
 use Rattle.layout.specs.Code.Names.{Scope, NamesStand}
 
@@ -38,10 +38,10 @@ pub record EmitLeft (i w : List ℕ) (n : ℕ) (y : Emitted) : Type 0 where
   pub items : i ≡ table_of (length i) item_row y.items
 
 -- what is lent is to be emitted, and what it then has
-abbrev pub EmitReady : LentSlice → LentSlice → LentSlice → ℕ → LentSlice → LentSlice → ℕ → Starts → LentSlice → ℕ → LentSlice → Type 0
-EmitReady t l n c e x m starts i count w = Unemitted t.now l.now n.now c e.now x.now m starts i.now count w.now
+abbrev pub EmitReady : List ℕ → List ℕ → List ℕ → ℕ → List ℕ → List ℕ → ℕ → Starts → List ℕ → ℕ → List ℕ → Type 0
+EmitReady t l n c e x m starts i count w = Unemitted t l n c e x m starts i count w
 
-abbrev pub Emits : OverCall → OverCall → OverCall → ℕ → OverCall → OverCall → ℕ → Starts → OverCall → ℕ → OverCall → Total → Type 0
+abbrev pub Emits : List ℕ → List ℕ → List ℕ → ℕ → List ℕ → List ℕ → ℕ → Starts → OverCall → ℕ → OverCall → Total → Type 0
 Emits t l n c e x m starts i count w r =
-    (u : EmitReady t.entry l.entry n.entry c e.entry x.entry m starts i.entry count w.entry)
+    (u : EmitReady t l n c e x m starts i.entry.now count w.entry.now)
     → Agrees (EmitLeft i.exit.now w.exit.now) (total_of r) (emitted_in u.scope)

@@ -49,8 +49,8 @@ constant_read (imm.Value z) = value z
 constant_read imm.Invalid = refused 19
 
 -- P holds of whatever equates these are
-abbrev pub WhereKnown : OverCall → OverCall → OverCall → ℕ → (List Known → Type 0) → Type 0
-WhereKnown t e x m P = (ks : List Known) → EquateTable t.entry.now e.entry.now x.entry.now m ks → P ks
+abbrev pub WhereKnown : List ℕ → List ℕ → List ℕ → ℕ → (List Known → Type 0) → Type 0
+WhereKnown t e x m P = (ks : List Known) → EquateTable t e x m ks → P ks
 
 -- what a pseudo's operands come to, and what an item emits, by the names in a scope
 abbrev pub looked_up_in : Scope → expansions.Wanted → Result ℕ expansions.Arguments

@@ -12,7 +12,7 @@ use Rattle.layout.specs.Code.Steps.{Some}
 use Rattle.layout.specs.Code.Fits.{Each, EquateFits}
 use Rattle.layout.specs.Code.Index.{Indexed}
 use Rattle.layout.specs.Code.Stands.{label_store}
-use Rattle.layout.specs.Code.Lent.{LentSlice, OverCall}
+use Rattle.layout.specs.Code.Lent.{}
 use Rattle.layout.specs.Code.Placed.{LabelsPlaced}
 
 -- a value, or none
@@ -80,10 +80,10 @@ pub record NamesStand (t l n : List ℕ) (c : ℕ) (e x : List ℕ) (m : ℕ) (s
   pub equates : EquateTable t e x m s.known
 
 -- what is lent stands for something: labels' records and index, equates' records and index
-abbrev pub NamesReady : LentSlice → LentSlice → LentSlice → ℕ → LentSlice → LentSlice → ℕ → Type 0
-NamesReady t l n c e x m = Some (NamesStand t.now l.now n.now c e.now x.now m)
+abbrev pub NamesReady : List ℕ → List ℕ → List ℕ → ℕ → List ℕ → List ℕ → ℕ → Type 0
+NamesReady t l n c e x m = Some (NamesStand t l n c e x m)
 
 -- P holds of whatever it stands for
-abbrev pub NamesKnown : OverCall → OverCall → OverCall → ℕ → OverCall → OverCall → ℕ → (Scope → Type 0) → Type 0
+abbrev pub NamesKnown : List ℕ → List ℕ → List ℕ → ℕ → List ℕ → List ℕ → ℕ → (Scope → Type 0) → Type 0
 NamesKnown t l n c e x m P =
-    (s : Scope) → NamesStand t.entry.now l.entry.now n.entry.now c e.entry.now x.entry.now m s → P s
+    (s : Scope) → NamesStand t l n c e x m s → P s

@@ -16,7 +16,7 @@ use Rattle.layout.specs.Code.Places.{place_code, PlaceFits}
 use Rattle.layout.specs.Code.Index.{Indexed, Distinct}
 use Rattle.layout.specs.Code.Steps.{Agrees}
 use Rattle.layout.specs.Code.Stands.{LabelStore, label_store, data_store, label_name, LabelsStand, StoredStand, total_of}
-use Rattle.layout.specs.Code.Lent.{LentSlice, OverCall}
+use Rattle.layout.specs.Code.Lent.{OverCall}
 use Rattle.layout.specs.Code.Orders.{LabelTable}
 
 -- where the sections start: the one place where the base comes in
@@ -65,9 +65,9 @@ address_found (address.At a) = some a
 address_found address.Nothing = none
 
 -- P holds of every base and state whose labels these are, with their addresses
-abbrev pub WherePlaced : OverCall → OverCall → OverCall → ℕ → (ℕ → State → Type 0) → Type 0
+abbrev pub WherePlaced : List ℕ → List ℕ → List ℕ → ℕ → (ℕ → State → Type 0) → Type 0
 WherePlaced t l n count P =
-    (base : ℕ) (σ : State) → LabelsPlaced t.entry.now base σ count (label_store l.entry.now n.entry.now) → P base σ
+    (base : ℕ) (σ : State) → LabelsPlaced t base σ count (label_store l n) → P base σ
 
 -- ---- label words
 
@@ -86,11 +86,11 @@ pub record FillLeft (words : ℕ) (d : List ℕ) (n : ℕ) (bytes : List ℕ) : 
   pub stored : d ≡ padded (length d) bytes
 
 -- what is lent is to be filled, and what it then has
-abbrev pub FillReady : LentSlice → LentSlice → LentSlice → ℕ → LentSlice → ℕ → LentSlice → Type 0
-FillReady t l n count w words d = Unfilled t.now l.now n.now count w.now words d.now
+abbrev pub FillReady : List ℕ → List ℕ → List ℕ → ℕ → List ℕ → ℕ → List ℕ → Type 0
+FillReady t l n count w words d = Unfilled t l n count w words d
 
-abbrev pub Fills : OverCall → OverCall → OverCall → ℕ → OverCall → ℕ → OverCall → Total → Type 0
+abbrev pub Fills : List ℕ → List ℕ → List ℕ → ℕ → List ℕ → ℕ → OverCall → Total → Type 0
 Fills t l n count w words d r =
-    (u : FillReady t.entry l.entry n.entry count w.entry words d.entry)
+    (u : FillReady t l n count w words d.entry.now)
     → Agrees (FillLeft words d.exit.now) (total_of r)
     (fill (label_address u.base u.state) u.state.rest.own.stored.label_words u.state.rest.own.stored.bytes)

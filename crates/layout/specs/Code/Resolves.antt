@@ -18,7 +18,7 @@ use Rattle.layout.specs.Rounds.{Known, pending_equate, constant, look, is_some, 
 use Rattle.layout.specs.Layouts.{resolve}
 use Rattle.layout.specs.Code.Steps.{Some, Agrees}
 use Rattle.layout.specs.Code.Stands.{expr_so_far, total_of}
-use Rattle.layout.specs.Code.Lent.{LentSlice, OverCall}
+use Rattle.layout.specs.Code.Lent.{OverCall}
 use Rattle.layout.specs.Code.Placed.{StartsAt}
 use Rattle.layout.specs.Code.Names.{EquateTable, Scope, NamesStand}
 use Rattle.layout.specs.Code.Terms.{evaluated_of, sum_on, Extends, TermWaits}
@@ -85,23 +85,23 @@ pub record TurnAgain (t l n : List ℕ) (c : ℕ) (starts : Starts) (e x : List 
 
 -- ---- said of the references lent
 
-abbrev pub TurnReady : LentSlice → LentSlice → LentSlice → ℕ → Starts → LentSlice → LentSlice → ℕ → LentSlice → Type 0
-TurnReady t l n c starts e x m exprs = Some (TurnStand t.now l.now n.now c starts e.now x.now m exprs.now)
+abbrev pub TurnReady : List ℕ → List ℕ → List ℕ → ℕ → Starts → List ℕ → List ℕ → ℕ → List ℕ → Type 0
+TurnReady t l n c starts e x m exprs = Some (TurnStand t l n c starts e x m exprs)
 
-abbrev pub TurnKnown : OverCall → OverCall → OverCall → ℕ → Starts → OverCall → OverCall → ℕ → OverCall → (Scope → Type 0) → Type 0
+abbrev pub TurnKnown : List ℕ → List ℕ → List ℕ → ℕ → Starts → List ℕ → List ℕ → ℕ → List ℕ → (Scope → Type 0) → Type 0
 TurnKnown t l n c starts e x m exprs P =
-    (s : Scope) → TurnStand t.entry.now l.entry.now n.entry.now c starts e.entry.now x.entry.now m exprs.entry.now s
+    (s : Scope) → TurnStand t l n c starts e x m exprs s
     → P s
 
-abbrev pub AgainReady : LentSlice → LentSlice → LentSlice → ℕ → Starts → LentSlice → LentSlice → ℕ → LentSlice → ℕ → ℕ → Partial → Type 0
+abbrev pub AgainReady : List ℕ → List ℕ → List ℕ → ℕ → Starts → List ℕ → List ℕ → ℕ → List ℕ → ℕ → ℕ → Partial → Type 0
 AgainReady t l n c starts e x m exprs round k p =
-    Some (TurnAgain t.now l.now n.now c starts e.now x.now m exprs.now round k p)
+    Some (TurnAgain t l n c starts e x m exprs round k p)
 
-abbrev pub AgainKnown : OverCall → OverCall → OverCall → ℕ → Starts → OverCall → OverCall → ℕ → OverCall → ℕ → ℕ → Partial → (Scope → Type 0)
+abbrev pub AgainKnown : List ℕ → List ℕ → List ℕ → ℕ → Starts → List ℕ → List ℕ → ℕ → List ℕ → ℕ → ℕ → Partial → (Scope → Type 0)
     → Type 0
 AgainKnown t l n c starts e x m exprs round k p P =
-    (s : Scope) → TurnAgain t.entry.now l.entry.now n.entry.now c starts e.entry.now x.entry.now m
-    exprs.entry.now round k p s → P s
+    (s : Scope) → TurnAgain t l n c starts e x m
+    exprs round k p s → P s
 
 -- an evaluation: the turn, and one evaluation more
 pub record EvaluationGives (s : Scope) (e : Equate) (evaluations : ℕ) (r : Evaluation) : Type 0 where
@@ -127,17 +127,17 @@ pub record RoundsStand (t l n : List ℕ) (c : ℕ) (starts : Starts) (e x : Lis
   pub stand : TurnStand t l n c starts e x m exprs (pending_scope base σ)
   pub room : m * 2 ≤ length partials
 
-pub record ResolveReady (t l n : LentSlice) (c : ℕ) (starts : Starts) (e x : LentSlice) (m : ℕ) (exprs partials : LentSlice) : Type 0 where
+pub record ResolveReady (t l n : List ℕ) (c : ℕ) (starts : Starts) (e x : List ℕ) (m : ℕ) (exprs partials : List ℕ) : Type 0 where
   pub base : ℕ
   pub state : State
-  pub stands : RoundsStand t.now l.now n.now c starts e.now x.now m exprs.now partials.now base state
+  pub stands : RoundsStand t l n c starts e x m exprs partials base state
 
 -- the equates are what the rounds leave, by so many evaluations
 pub record ResolveLeft (t e x : List ℕ) (m n : ℕ) (y : Turns) : Type 0 where
   pub evaluations : n ≡ y.evaluations
   pub equates : EquateTable t e x m y.known
 
-abbrev pub Resolves : OverCall → OverCall → OverCall → ℕ → Starts → OverCall → OverCall → ℕ → OverCall → OverCall → Total → Type 0
+abbrev pub Resolves : List ℕ → List ℕ → List ℕ → ℕ → Starts → OverCall → List ℕ → ℕ → List ℕ → OverCall → Total → Type 0
 Resolves t l n c starts e x m exprs partials r =
-    (s : ResolveReady t.entry l.entry n.entry c starts e.entry x.entry m exprs.entry partials.entry)
-    → Agrees (ResolveLeft t.entry.now e.exit.now x.entry.now m) (total_of r) (resolve s.base s.state s.state.rest.equates)
+    (s : ResolveReady t l n c starts e.entry.now x m exprs partials.entry.now)
+    → Agrees (ResolveLeft t e.exit.now x m) (total_of r) (resolve s.base s.state s.state.rest.equates)

@@ -14,7 +14,7 @@ use Rattle.layout.specs.Layouts.{resolve}
 use Rattle.layout.specs.Code.Index.{buckets, Indexed}
 use Rattle.layout.specs.Code.Steps.{Agrees}
 use Rattle.layout.specs.Code.Stands.{LabelsStand, EquatesStand, StoredStand, label_store, equate_store, data_store, total_of}
-use Rattle.layout.specs.Code.Lent.{LentSlice, OverCall}
+use Rattle.layout.specs.Code.Lent.{OverCall}
 use Rattle.layout.specs.Code.Placed.{LabelsPlaced}
 use Rattle.layout.specs.Code.Resolves.{ResolveLeft}
 
@@ -31,9 +31,9 @@ pub record SymbolsStand (t : List ℕ) (base : ℕ) (st : Counters) (l n e ix x 
   pub index_room : buckets + equate_limit ≤ length ix
   pub partials_room : equate_limit * 2 ≤ length w
 
-abbrev pub SymbolsReady : LentSlice → ℕ → Counters → LentSlice → LentSlice → LentSlice → LentSlice → LentSlice → LentSlice → LentSlice → LentSlice
+abbrev pub SymbolsReady : List ℕ → ℕ → Counters → List ℕ → List ℕ → List ℕ → List ℕ → List ℕ → List ℕ → List ℕ → List ℕ
     → Type 0
-SymbolsReady t base st l n e ix x w d lw = SymbolsStand t.now base st l.now n.now e.now ix.now x.now w.now d.now lw.now
+SymbolsReady t base st l n e ix x w d lw = SymbolsStand t base st l n e ix x w d lw
 
 -- the data with the label words filled, and the equates after their rounds
 pub record Symbols : Type 0 where
@@ -51,9 +51,9 @@ pub record SymbolsLeft (t : List ℕ) (base : ℕ) (σ : State) (st : Counters) 
   pub bytes : d ≡ padded (length d) y.bytes
   pub resolved : ResolveLeft t e ix st.rest.equates count y.turns
 
-abbrev pub SymbolsResolve : OverCall → ℕ → Counters → OverCall → OverCall → OverCall → OverCall → OverCall → OverCall → OverCall → OverCall
+abbrev pub SymbolsResolve : List ℕ → ℕ → Counters → OverCall → List ℕ → OverCall → OverCall → List ℕ → OverCall → OverCall → List ℕ
     → Total → Type 0
 SymbolsResolve t base st l n e ix x w d lw r =
-    (s : SymbolsReady t.entry base st l.entry n.entry e.entry ix.entry x.entry w.entry d.entry lw.entry)
-    → Agrees (SymbolsLeft t.entry.now base s.state st l.exit.now n.entry.now e.exit.now ix.exit.now d.exit.now)
+    (s : SymbolsReady t base st l.entry.now n e.entry.now ix.entry.now x w.entry.now d.entry.now lw)
+    → Agrees (SymbolsLeft t base s.state st l.exit.now n e.exit.now ix.exit.now d.exit.now)
     (total_of r) (symbols_of base s.state)
