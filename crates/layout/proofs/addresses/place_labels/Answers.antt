@@ -1,0 +1,23 @@
+-- `addresses::place_labels`: whatever labels the buffer stood for, the first k have their addresses.
+use Rattle.layout.proofs.AddressLaws.{placing_first, record_within, place_back, placing_next, placing_end}
+use Rattle.layout.proofs.addresses.place_labels.Goals as goal
+
+pub loop-k-init : goal.loop-k-init
+loop-k-init c = placing_first
+
+pub get_label-label-requires : goal.get_label-label-requires
+get_label-label-requires c = record_within c.loop-k.invariant c.loop-k-test.true c.requires
+
+pub address-requires : goal.address-requires
+address-requires c = place_back c.loop-k.invariant c.loop-k-test.true c.get_label-label.result c.get_label-label.ensures c.requires
+
+pub put_label-requires : goal.put_label-requires
+put_label-requires c = record_within c.loop-k.invariant c.loop-k-test.true c.requires
+
+pub loop-k-preserved : goal.loop-k-preserved
+loop-k-preserved c =
+    placing_next c.loop-k.invariant c.loop-k-test.true c.get_label-label.result c.get_label-label.ensures
+    c.address.result c.address.ensures _ c.put_label.auto.0 c.put_label.ensures
+
+pub returns : goal.returns
+returns c = placing_end c.loop-k.invariant c.loop-k-test.false

@@ -1,0 +1,25 @@
+-- `data::add_label_word`: an address's place, name and line; another write makes no label word.
+use native.Mathlib.Omega.{arith}
+use Rattle.layout.proofs.DataLaws.{word_none, word_many, word_goes}
+use Rattle.layout.proofs.data.add_label_word.Goals as goal
+
+pub returns-in_default : goal.returns-in_default
+returns-in_default c = word_none _ _ _ _ _ c.args.write c.in_default.in_default-own.keys2
+
+pub returns-then-count-ge-LABEL_WORD_LIMIT : goal.returns-then-count-ge-LABEL_WORD_LIMIT
+returns-then-count-ge-LABEL_WORD_LIMIT c = word_many _ _ _ _ _ _ _ c.in-Address.is c.if-count-ge-LABEL_WORD_LIMIT.true
+
+pub overflow_cast-word-2 : goal.overflow_cast-word-2
+overflow_cast-word-2 c =
+    let h = rw c.in-Address.is at c.requires.2 in
+    record { fits = omega (arith, h, c.requires.1) }
+
+pub overflow_cast-word-3 : goal.overflow_cast-word-3
+overflow_cast-word-3 c =
+    let h = rw c.in-Address.is at c.requires.2 in
+    record { fits = omega (arith, h, c.requires.1) }
+
+pub returns : goal.returns
+returns c =
+    word_goes _ _ _ _ _ _ _ c.in-Address.is _ c.requires.2 c.if-count-ge-LABEL_WORD_LIMIT.false c.put_label_word.auto.0
+    c.put_label_word.ensures

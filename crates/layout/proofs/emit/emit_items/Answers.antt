@@ -1,0 +1,63 @@
+-- `emit::emit_items`: what is emitted so far, carried on over the items that are left, is what all of them emit.
+use mathlib.Core.Path.{refl}
+use native.Mathlib.Omega.{arith}
+use Rattle.layout.proofs.EmitSteps.{emit-first, emit_few, emit-low, emit-within, emit_ends, emit_lent, item_record_fits, emit_coded, emit_stops, emit_more, emit_goes}
+use Rattle.layout.proofs.ByteLaws.{length_mid}
+use borrow.Author.Rules.{rules}
+use Rattle.layout.proofs.emit.emit_items.Goals as goal
+
+pub loop-k-init : goal.loop-k-init
+loop-k-init c = emit-first
+
+pub get_item-item-requires : goal.get_item-item-requires
+get_item-item-requires c = emit_lent c.requires c.loop-k.invariant c.loop-k-test.true
+
+pub offset_bounds-words-at : goal.offset_bounds-words-at
+offset_bounds-words-at c = omega (arith, emit-low c.requires c.loop-k.invariant)
+
+pub slice_bounds-emit_item-count : goal.slice_bounds-emit_item-count
+slice_bounds-emit_item-count c = omega (arith, emit-within c.requires c.loop-k.invariant)
+
+pub slice_bounds-emit_item-start : goal.slice_bounds-emit_item-start
+slice_bounds-emit_item-start c = omega (arith, emit-within c.requires c.loop-k.invariant)
+
+pub emit_item-requires : goal.emit_item-requires
+emit_item-requires c =
+    let u = c.requires in
+    let inv = c.loop-k.invariant in
+    (
+      record { it = u.scope; stands = u.names },
+      item_record_fits u inv c.loop-k-test.true c.get_item-item.result c.get_item-item.ensures _ (length_mid _ c.loop-k.words),
+    )
+
+pub address-requires : goal.address-requires
+address-requires c = emit_coded c.requires c.loop-k.invariant c.loop-k-test.true c.get_item-item.result c.get_item-item.ensures
+
+pub overflow_cast-emitted : goal.overflow_cast-emitted
+overflow_cast-emitted c = omega (arith, emit-low c.requires c.loop-k.invariant)
+
+pub put_item-requires : goal.put_item-requires
+put_item-requires c = emit_lent c.requires c.loop-k.invariant c.loop-k-test.true
+
+pub overflow_add-at : goal.overflow_add-at
+overflow_add-at c = omega (arith, emit_more c.requires c.loop-k.invariant c.loop-k-test.true c.get_item-item.result c.get_item-item.ensures _ _ _ (rw c.in-Now.is at c.emit_item.ensures))
+
+pub overflow_add-k : goal.overflow_add-k
+overflow_add-k c = omega (arith, c.loop-k-test.true, emit_few c.requires)
+
+pub loop-k-preserved : goal.loop-k-preserved
+loop-k-preserved c =
+    let inv = c.loop-k.invariant in
+    let more = c.loop-k-test.true in
+    record {
+      within = omega (arith, more);
+      items_sized = search rules;
+      words_sized = search rules;
+      emitting = λ u. emit_goes u inv more c.get_item-item.result c.get_item-item.ensures _ _ _ (rw c.in-Now.is at c.emit_item.ensures) refl _ c.address.ensures _ c.put_item.auto.0 c.put_item.ensures;
+    }
+
+pub returns-in-Stop : goal.returns-in-Stop
+returns-in-Stop c = λ u. emit_stops u c.loop-k.invariant c.loop-k-test.true c.get_item-item.result c.get_item-item.ensures _ _ _ (rw c.in-Stop.is at c.emit_item.ensures) _ _
+
+pub returns : goal.returns
+returns c = λ u. emit_ends u c.loop-k.invariant c.loop-k-test.false

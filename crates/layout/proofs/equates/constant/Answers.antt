@@ -1,0 +1,77 @@
+-- `equates::constant`: what the names below the entry give comes before what was found above it.
+use Prim.Native.Nat.{◌+◌, ◌-◌, ◌<◌}
+use mathlib.Core.Path.{◌≡◌, sym, ap, ◌∙◌}
+use mathlib.Core.Bool.{Bool, true, false}
+use mathlib.Core.Logic.{⊎_elim}
+use mathlib.Core.Option.{some}
+use native.Mathlib.Omega.{arith}
+use mir.Syntax.{w64}
+use mir.Val.{SFits}
+use mir.Facts.{to_z-of_z}
+use Rattle.layout.specs.Code.Index.{buckets}
+use Rattle.layout.specs.Code.Resolves.{known_at}
+use Rattle.layout.proofs.IndexLaws.{bucket_below}
+use Rattle.layout.proofs.KnownLaws.{equates_lent, table_room, is_found, found_as_read, seek_first, seek_less, seek_hit, seek_miss, seek_none, seek_value}
+use borrow.Author.Rules.{rules}
+use Rattle.layout.proofs.equates.constant.Goals as goal
+use Rattle.layout.proofs.equates.constant.Goals.{In-loop-entry}
+
+pub offset_bounds-index-bucket_of : goal.offset_bounds-index-bucket_of
+offset_bounds-index-bucket_of c = omega (arith, c.bucket_of.ensures, bucket_below c.args.name.now)
+
+pub bounds-index-bucket_of : goal.bounds-index-bucket_of
+bounds-index-bucket_of c = omega (arith, c.bucket_of.ensures, bucket_below c.args.name.now, table_room c.requires.stands)
+
+pub overflow_cast-entry : goal.overflow_cast-entry
+overflow_cast-entry c = omega (arith, c.type_inv.index c.bucket_of.result)
+
+pub loop-entry-init : goal.loop-entry-init
+loop-entry-init c = λ ks t. seek_first t _ _ c.bucket_of.ensures
+
+-- what the walk has of the equates that the buffers stand for: the entry's record is one of so many
+below : (d : In-loop-entry) → d.loop-entry.entry - 1 < d.args.count
+below d =
+    omega (arith, (d.loop-entry.invariant d.requires.it d.requires.stands).le, d.requires.stands.rows.counted, d.loop-entry-test.true)
+
+pub is_found-requires : goal.is_found-requires
+is_found-requires c = omega (arith, below c, equates_lent c.requires.stands.rows)
+
+pub overflow_add-entry : goal.overflow_add-entry
+overflow_add-entry c = omega (arith, below (goal.at.overflow_add-entry c).In-loop-entry)
+
+pub offset_bounds-index-k : goal.offset_bounds-index-k
+offset_bounds-index-k c = omega (arith, below (goal.at.offset_bounds-index-k c).In-loop-entry, table_room c.requires.stands, c.requires.stands.rows.counted, c.requires.stands.rows.few)
+
+pub bounds-index-k : goal.bounds-index-k
+bounds-index-k c = omega (arith, below (goal.at.bounds-index-k c).In-loop-entry, table_room c.requires.stands, c.requires.stands.rows.counted)
+
+pub overflow_cast-entry-in-loop-entry : goal.overflow_cast-entry-in-loop-entry
+overflow_cast-entry-in-loop-entry c = omega (arith, c.type_inv.index (buckets + (c.loop-entry.entry - 1)))
+
+pub loop-entry-smaller : goal.loop-entry-smaller
+loop-entry-smaller c = seek_less c.requires.stands _ _ c.loop-entry.entry c.loop-entry-test.true (c.loop-entry.invariant c.requires.it c.requires.stands)
+
+pub loop-entry-preserved : goal.loop-entry-preserved
+loop-entry-preserved c =
+    λ ks t.
+    let read : (b : Bool) → c.is_found.result ≡ b → is_found (known_at ks (c.loop-entry.entry - 1)) c.args.name.now ≡ b =
+    λ b e. found_as_read t c.args.name.now (c.loop-entry.entry - 1) (omega (arith, (c.loop-entry.invariant ks t).le, c.loop-entry-test.true)) b (sym c.is_found.ensures ∙ e) in
+    ⊎_elim
+    (λ w. rw w.1 (seek_hit t _ _ _ c.loop-entry-test.true (c.loop-entry.invariant ks t) (read true w.0.taken)))
+    (λ w. rw w.1 (seek_miss t _ _ _ c.loop-entry-test.true (c.loop-entry.invariant ks t) (read false w.0.left)))
+    c.if-is_found.branch
+
+pub returns-then-found-eq0 : goal.returns-then-found-eq0
+returns-then-found-eq0 c = λ ks t. seek_none t _ _ _ c.loop-entry-test.false (c.loop-entry.invariant ks t) c.if-found-eq0.true
+
+pub overflow_sub-found : goal.overflow_sub-found
+overflow_sub-found c = omega (arith, c.if-found-eq0.false)
+
+pub get_equate-requires : goal.get_equate-requires
+get_equate-requires c = omega (arith, (c.loop-entry.invariant c.requires.it c.requires.stands).within, c.requires.stands.rows.counted, c.if-found-eq0.false, equates_lent c.requires.stands.rows)
+
+pub returns : goal.returns
+returns c =
+    let fit : SFits w64 c.get_equate.result.value = search rules in
+    λ ks t. rw (to_z-of_z fit)
+    (ap (λ r. some r.value) c.get_equate.ensures ∙ seek_value t _ _ _ c.loop-entry-test.false (c.loop-entry.invariant ks t) c.if-found-eq0.false)

@@ -1,0 +1,64 @@
+-- `stage::step_line`: the label's step, then what the line says.
+use mathlib.Core.Path.{ap}
+use Rattle.layout.specs.Code.Stands.{count_of, rest_of}
+use Rattle.layout.proofs.CutLaws.{cut_order, cut_end}
+use Rattle.layout.proofs.StageLaws.{words_within, place_fits, line_label-within, line_says-within, label_stopped, rest_stopped, line_goes}
+use Rattle.layout.proofs.stage.step_line.Goals as goal
+
+pub line_of-parsed-requires : goal.line_of-parsed-requires
+line_of-parsed-requires c = (c.requires.3, c.requires.2)
+
+pub place-requires : goal.place-requires
+place-requires c = words_within c.requires.0.stands.rest.own
+
+pub label_step-requires : goal.label_step-requires
+label_step-requires c =
+    let a = c.args in (
+      record { it = c.requires.0.it.labels; stands = c.requires.0.stands.labels },
+      rw c.place.ensures (place_fits c.requires.0.stands.rest.own),
+      c.requires.1,
+      line_label-within a.text.now a.cut.at a.cut.end (cut_order _ _ c.requires.2) (cut_end _ _ c.requires.2) a.st.rest.own.section
+          c.line_of-parsed.result c.line_of-parsed.ensures,
+    )
+
+pub statement_step-requires : goal.statement_step-requires
+statement_step-requires c =
+    let a = c.args in
+    (
+      record { it = c.requires.0.it.rest; stands = c.requires.0.stands.rest },
+      c.requires.1,
+      line_says-within a.text.now a.cut.at a.cut.end (cut_order _ _ c.requires.2) (cut_end _ _ c.requires.2) a.st.rest.own.section c.line_of-parsed.result
+          c.line_of-parsed.ensures,
+      c.requires.4,
+    )
+
+pub returns-in-Now-statement_step : goal.returns-in-Now-statement_step
+returns-in-Now-statement_step c =
+    line_goes _ _ _ _ _ _ _ _ (cut_order _ _ c.requires.2) (cut_end _ _ c.requires.2) _ c.line_of-parsed.ensures _ c.place.ensures _
+    c.label_step.ensures
+    _ (ap count_of c.in-Now.is) _ c.statement_step.ensures _
+    (ap rest_of c.in-Now-statement_step.is)
+
+pub returns-in-Stop-statement_step : goal.returns-in-Stop-statement_step
+returns-in-Stop-statement_step c =
+    rest_stopped _ _ _ _ _ _ _ _ (cut_order _ _ c.requires.2) (cut_end _ _ c.requires.2) _ c.line_of-parsed.ensures _ c.place.ensures _
+    c.label_step.ensures
+    _ (ap count_of c.in-Now.is) _ c.statement_step.ensures _
+    (ap rest_of c.in-Stop-statement_step.is)
+
+pub returns-in-Stop : goal.returns-in-Stop
+returns-in-Stop c =
+    label_stopped _ _ _ _ _ _ _ _ (cut_order _ _ c.requires.2) (cut_end _ _ c.requires.2) _ c.line_of-parsed.ensures _ c.place.ensures _
+    c.label_step.ensures _ (ap count_of c.in-Stop.is)
+
+pub shape_of-labels-in-Now-statement_step : goal.shape_of-labels-in-Now-statement_step
+shape_of-labels-in-Now-statement_step c = c.label_step.auto.1.0
+
+pub shape_of-index-in-Now-statement_step : goal.shape_of-index-in-Now-statement_step
+shape_of-index-in-Now-statement_step c = c.label_step.auto.1.1.0
+
+pub shape_of-labels-in-Stop-statement_step : goal.shape_of-labels-in-Stop-statement_step
+shape_of-labels-in-Stop-statement_step c = c.label_step.auto.1.0
+
+pub shape_of-index-in-Stop-statement_step : goal.shape_of-index-in-Stop-statement_step
+shape_of-index-in-Stop-statement_step c = c.label_step.auto.1.1.0

@@ -1,0 +1,21 @@
+-- `tokens::name_end`: the invariant says that the name's end looked for from i on is its end.
+use mathlib.Core.Path.{sym, ◌∙◌}
+use native.Mathlib.Omega.{arith}
+use borrow.Author.Rules.{rules}
+use borrow.Author.Tests.{not-true, not-false}
+use Rattle.numbers.proofs.Trims.{leading_more, leading-stop, leading_end}
+use Rattle.layout.specs.Expressions.{is_name_byte}
+use Rattle.layout.proofs.tokens.name_end.Goals as goal
+
+pub returns-then-not-is_name_byte : goal.returns-then-not-is_name_byte
+returns-then-not-is_name_byte c =
+    let other = sym c.is_name_byte.ensures ∙ not-true _ c.if-not-is_name_byte.true-raw in
+    omega (arith, leading-stop is_name_byte c.args.s.now c.loop-i.i (search rules) other)
+
+pub loop-i-preserved : goal.loop-i-preserved
+loop-i-preserved c =
+    let one = sym c.is_name_byte.ensures ∙ not-false _ c.if-not-is_name_byte.false-raw in
+    omega (arith, leading_more is_name_byte c.args.s.now c.loop-i.i (search rules) one)
+
+pub returns : goal.returns
+returns c = omega (arith, leading_end is_name_byte c.args.s.now c.loop-i.i c.loop-i-test.false)
