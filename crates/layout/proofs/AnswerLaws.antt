@@ -99,6 +99,7 @@ below n m (e ∷ es) g first = by (suc e.line) es g.1
     by n [] g = g
     by n (x ∷ es) g = omega (arith, g.0, by (suc x.line) es g.1)
 below n m (x ∷ es) g (later a) = below (suc x.line) m es g.1 a
+below {e = e} n m [] g never = elim never [ ]
 
 pub rounds_say : (base : ℕ) (σ : State) (m : ℕ) → Rising 0 σ.rest.equates m → Says round_numbers m (resolve base σ σ.rest.equates)
 rounds_say base σ m up = comes_so _ (λ _. Unit) (RoundsRefused base σ es) (Said round_numbers m) (λ x d. tt) by (resolve base σ es) (all_end base σ es)

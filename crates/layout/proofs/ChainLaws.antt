@@ -35,6 +35,7 @@ among_at (there a) = later (among_at a)
 pub at_among : {d : Equate} (F : List Known) → Among d (map (λ k. k.equate) F) → (j : ℕ) × (l : Known) × At F j l × (l.equate ≡ d)
 at_among (k ∷ F) first = (0, k, here, refl)
 at_among (k ∷ F) (later a) = let r = at_among F a in (suc r.0, r.1, there r.2, r.3)
+at_among {d = d} [] never = elim never [ ]
 
 pub among_each : {A : Type 0} {x : A} {xs : List A} (P : A → Type 0) → Each P xs → Among x xs → P x
 among_each P g first = g.0
@@ -321,6 +322,7 @@ first_left (k ∷ ks) h = by k.found refl (first_left ks) h
 rising_from : {j : ℕ} {k : Known} (n m : ℕ) (F : List Known) → Rising n (map (λ k. k.equate) F) m → At F j k → n ≤ k.equate.line
 rising_from n m (x ∷ xs) g here = g.0
 rising_from n m (x ∷ xs) g (there a) = omega (arith, g.0, rising_from (suc x.equate.line) m xs g.1 a)
+rising_from {j = j} {k = k} n m [] g never = elim never [ ]
 
 -- and none stands before it
 first_least : {j : ℕ} {k : Known} (n m : ℕ) (F : List Known) → Rising n (map (λ k. k.equate) F) m → At F j k → k.found ≡ none
@@ -332,6 +334,7 @@ first_least {k = k} n m (x ∷ xs) g (there a) e = by x.found (first_least (suc 
     by : (o : Option Found) → first_pending xs ≤ k.equate.line → elim o [ none ↦ x.equate.line | some f ↦ first_pending xs ] ≤ k.equate.line
     by none h = omega (arith, rising_from (suc x.equate.line) m xs g.1 a)
     by (some f) h = h
+first_least {j = j} {k = k} n m [] g never e = elim never [ ]
 
 -- where a last round finds nothing, the first line that is left over is the first whose equate starts such a chain
 pub stuck_names : (σ : State) (turn : List Known → Equate → Evaluated) → Evaluator σ turn → (m : ℕ) → Rising 0 σ.rest.equates m

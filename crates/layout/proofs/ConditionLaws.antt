@@ -48,6 +48,7 @@ distinct_at (x ∷ xs) d (there a) here q = absurd (named_none (known_name x) (a
 distinct_at (x ∷ xs) d (there a) (there b) q =
     let ns = map name_of (map (λ k. k.equate) xs) in
     ap suc (distinct_at xs (and_right (not (is_one_of ns (known_name x))) (are_distinct ns) d) a b q)
+distinct_at {t = t} {u = u} {k = k} {l = l} [] d never _ q = elim never [ ]
 
 worth_as : (base : ℕ) (σ : State) (n n' : List ℕ) (z z' : ℤ) → n ≡ n' → z ≡ z' → Worth base σ n z → Worth base σ n' z'
 worth_as base σ n n' z z' p q h = rw (p, q) at h

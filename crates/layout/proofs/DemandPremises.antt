@@ -18,7 +18,7 @@ use Rattle.layout.specs.State.{Equate, State}
 use Rattle.layout.specs.Stage.{is_label}
 use Rattle.layout.specs.Layouts.{Answer, layout_of}
 use Rattle.layout.specs.Terms.{literal, named, Atom, Term, terms_from, terms_of, WellFormed, plus_term, signed_sum, names_in}
-use Rattle.layout.specs.Chains.{Among, first, uses, undefined, circular, Worth, of_label, of_equate, is_within, NeverBeyond, Conditions, Chained}
+use Rattle.layout.specs.Chains.{Among, first, later, uses, undefined, circular, Worth, of_label, of_equate, is_within, NeverBeyond, Conditions, Chained}
 use Rattle.layout.specs.Demands.{BeforeRounds, Demanded}
 use Rattle.layout.proofs.ResultLaws.{some_same}
 use Rattle.layout.proofs.Computing.{computing}
@@ -62,8 +62,10 @@ met s t terms within = record { well_formed = formed; distinct = refl; no_label 
   where
     formed : (e : Equate) → Among e (one s ∷ []) → WellFormed e
     formed e first = (t ∷ [], terms)
+    formed e (later never) = elim never [ ]
 
     small : (e : Equate) → Among e (one s ∷ []) → NeverBeyond 0 (state s) e
+    small e (later never) look g ts q = elim never [ ]
     small e first look g ts q = ap (is_within look (pos 0) (pos 0)) (sym (some_same (sym terms ∙ q))) ∙ within look g
 
 -- a name that cannot be evaluated
@@ -90,6 +92,7 @@ never_u : (n : List ℕ) (z : ℤ) → Worth 0 (state (text "u")) n z → same n
 unfolding computing
 never_u n z (of_label m a e) q = none-some e
 never_u n z (of_equate e first look g ts t y s) q = false≢true q
+never_u n z (of_equate _ (later never) look g ts t _ s) q = elim never [ ]
 
 pub conditions_u : Conditions 0 (state (text "u"))
 unfolding computing
@@ -129,6 +132,7 @@ never_a : (n : List ℕ) (z : ℤ) → Worth 0 (state (text "a")) n z → same n
 unfolding computing
 never_a n z (of_label m a e) q = none-some e
 never_a n z (of_equate e first look g ts t y s) q = lacks_a look ts y t s (λ v p. never_a (text "a") v (g (text "a") v p) refl)
+never_a _ _ (of_equate e (later never) look g ts t y s) q = elim never [ ]
 
 pub conditions_a : Conditions 0 (state (text "a"))
 unfolding computing

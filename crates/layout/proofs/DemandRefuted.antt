@@ -25,7 +25,7 @@ use Rattle.layout.specs.Stage.{line_stage}
 use Rattle.layout.specs.Addresses.{LabelAt}
 use Rattle.layout.specs.Layouts.{EquateAt, ItemAt, Layout, layout_of, Answer}
 use Rattle.layout.specs.Terms.{Term, terms_from, terms_of, signed_sum, names_in, is_used}
-use Rattle.layout.specs.Chains.{Among, first, name_of, Reaches, uses, onto, Unresolved, undefined, circular, NamesFirst}
+use Rattle.layout.specs.Chains.{Among, first, later, name_of, Reaches, uses, onto, Unresolved, undefined, circular, NamesFirst}
 use Rattle.layout.specs.Held.{held_layout}
 use Rattle.layout.specs.Demands.{recorded_value, recorded_address, final_value, largest, sum_of_rounds, word_from, LabelWordHolds, li_value, Loads, Holds, Demanded}
 use Rattle.numbers.proofs.Bools.{none-some}
@@ -388,6 +388,7 @@ seventeen_early x n d =
   where
     last : (e : Equate) → Among e (five ∷ []) → Unresolved five_state e → ⊥
     last e first u = starts_none u
+    last e (later never) u = elim never [ ]
 
     by : NamesFirst five_state x.line → ⊥
     by f = last f.equate f.among f.starts

@@ -75,7 +75,7 @@ recorded_each P x (l ∷ ls) g h = by (same l.name.bytes x.name.bytes) (recorded
 consecutive_more : (n : ℕ) (xs : List ItemLine) (x : ItemLine) (m : ℕ) → Consecutive n xs m → x.offset ≡ 4 * m
     → Consecutive n (xs ++ x ∷ []) (m + reserved_words x.item x.source.bytes)
 consecutive_more n [] x m g h = (rw g h, rw g refl)
-consecutive_more n (y ∷ xs) x m g h = (g.0, consecutive_more _ xs x m g.1 h)
+consecutive_more n (y ∷ xs) x m g h = (g.0, consecutive_more (n + reserved_words y.item y.source.bytes) xs x m g.1 h)
 
 -- those behind the first
 pub consecutive_next : (n n' : ℕ) (x : ItemLine) (xs : List ItemLine) (m : ℕ) → n' ≡ n + reserved_words x.item x.source.bytes
@@ -84,7 +84,7 @@ consecutive_next n n' x xs m e g = subst (λ (k : ℕ). Consecutive k xs m) (sym
 
 pub consecutive_up : (n : ℕ) (xs : List ItemLine) (m : ℕ) → Consecutive n xs m → n ≤ m
 consecutive_up n [] m g = omega (arith, g)
-consecutive_up n (x ∷ xs) m g = omega (arith, consecutive_up _ xs m g.1)
+consecutive_up n (x ∷ xs) m g = omega (arith, consecutive_up (n + reserved_words x.item x.source.bytes) xs m g.1)
 
 -- ---- data
 

@@ -41,7 +41,6 @@ pub mod ScopeLaws
 pub mod TermLaws
 pub mod TokenLaws
 pub mod SpacedTokens
-pub mod Walks
 pub mod Emissions
 pub mod Fields
 pub mod AddressLaws

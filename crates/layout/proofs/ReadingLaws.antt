@@ -183,7 +183,7 @@ module _ (t : List ℕ) (k : Room) (line : ℕ) (x : Readings) (s : List ℕ) (c
       writing_goes c' q same-m same-l =
           record {
             same_bytes = same-m ∙ g.same_bytes;
-            same_words = same-l ∙ g.same-words;
+            same_words = same-l ∙ g.same_words;
             first = g.first;
             left = λ σ i.
                 let a = agreed (λ d. StoredStand t k d (data_store m' l')) c' (data_write k line w (g.left σ i).state) (rw q at (h (g.left σ i).state (g.left σ i).stands)) in

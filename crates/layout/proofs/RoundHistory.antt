@@ -273,6 +273,7 @@ module _ (turn : List Known → Equate → Evaluated) where
     steps_at {done} {i = suc i} d g (waiting {ls = ls} {k = k} e t s) (there h) =
         let r = steps_at (one_more done (pending_equate k.equate) d (λ f p. absurd (none-some p))) g.1 s h in
         (r.0, there r.1, rw (moved done ls (pending_equate k.equate) i) at r.2)
+    steps_at {i = i} {l = l} d g (no_more {done = done}) never = elim never [ ]
 
   -- ---- the history of R rounds
 

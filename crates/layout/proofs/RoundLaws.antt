@@ -47,6 +47,7 @@ none-all (x ∷ xs) n e (there a) q = none-all xs n (by (same (known_name x) n) 
     by true none e = e
     by true (some f) e = absurd (none-some (sym e))
     by false o e = e
+none-all {t = t} {k = k} [] n e never q = elim never [ ]
 
 -- one that has one: it is a found equate's
 pub record Valued (ks : List Known) (n : List ℕ) (z : ℤ) : Type 0 where
@@ -78,15 +79,22 @@ some_one (k ∷ ks) n z e = by (same (known_name k) n) refl k.found refl e (some
 at_shown : {t : ℕ} {h : Known} (q i j : ℕ) (ks : List Known) → At (shown q i j ks) t h
     → (k : Known) × At ks t k × (h ≡ shown_one q i (j + t) k k.found)
 unfolding shown
-at_shown q i j (k ∷ ks) here = (k, here, ap (λ n. shown_one q i n k k.found) (omega arith))
-at_shown {t = suc t} q i j (k ∷ ks) (there a) =
-    let r = at_shown q i (suc j) ks a in
-    (r.0, there r.1, r.2 ∙ ap (λ n. shown_one q i n r.0 r.0.found) (omega arith))
+at_shown q i j [] never = elim never [ ]
+at_shown {t = t} {h = h} q i j (k ∷ ks) a = by j h t a (λ u b. at_shown {t = u} {h = h} q i (suc j) ks b)
+  where
+    by : (j : ℕ) (h : Known) (t : ℕ) → At (shown_one q i j k k.found ∷ shown q i (suc j) ks) t h
+        → ((u : ℕ) → At (shown q i (suc j) ks) u h → (m : Known) × At ks u m × (h ≡ shown_one q i (suc j + u) m m.found))
+        → (m : Known) × At (k ∷ ks) t m × (h ≡ shown_one q i (j + t) m m.found)
+    by j h zero here rec = (k, here, ap (λ n. shown_one q i n k k.found) (omega arith))
+    by j h (suc t) (there b) rec =
+        let r = rec t b in
+        (r.0, there r.1, r.2 ∙ ap (λ n. shown_one q i n r.0 r.0.found) (omega arith))
 
 shown_at : {t : ℕ} {k : Known} (q i j : ℕ) (ks : List Known) → At ks t k → At (shown q i j ks) t (shown_one q i (j + t) k k.found)
 unfolding shown
 shown_at q i j (k ∷ ks) here = let e : j + 0 ≡ j = omega arith in rw e here
 shown_at {t = suc t} q i j (k ∷ ks) (there a) = let e : j + suc t ≡ suc j + t = omega arith in rw e (there (shown_at q i (suc j) ks a))
+shown_at {t = t} {k = k} q i j [] never = elim never [ ]
 
 one_name : (q i j : ℕ) (k : Known) (o : Option Found) → known_name (shown_one q i j k o) ≡ known_name k
 one_name q i j k none = refl
@@ -228,6 +236,7 @@ largest_ge used more (x ∷ ks) f (there a) e u = by x.found (largest_ge used mo
         → f.round + more ≤ largest used more (cons_found x o (found_equates ks))
     by none h = h
     by (some g) h = omega arith
+largest_ge {j = j} {k = k} used more [] f never e u = elim never [ ]
 
 largest_of : (r a b : ℕ) → 1 ≤ r → a ≤ r → b ≤ r → (r ≤ 1) ⊎ (r ≤ a) ⊎ (r ≤ b) → r ≡ max 1 (max a b)
 largest_of r a b h g i (inl x) = omega arith
@@ -239,6 +248,7 @@ largest_of r a b h g i (inr (inr x)) = omega arith
 at_above : {j : ℕ} {l : Known} (done ks : List Known) → At done j l → At (done ++ ks) j l
 at_above (x ∷ done) ks here = here
 at_above (x ∷ done) ks (there a) = there (at_above done ks a)
+at_above {j = j} {l = l} [] ks never = elim never [ ]
 
 at_below : {j : ℕ} {l : Known} (done ks : List Known) → At ks j l → At (done ++ ks) (length done + j) l
 at_below {j} [] ks a = let e : 0 + j ≡ j = omega arith in rw e a

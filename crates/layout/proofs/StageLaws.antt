@@ -77,7 +77,7 @@ module _ (t : List ℕ) (k : Room) (c : OwnCounters) where
         → Steps (OwnStand t k) c (record { items = i; stored = d }) (value (record { section = c.section; items = x; stored = c.stored; bss = c.bss }))
         (record { items = i'; stored = d }) (λ σ. mapped (with_items σ) (f σ.items))
     items_go x e σ s =
-        lift_go _ _ r (f σ.items) _ x _ e (h σ.items s.items)
+        lift_go (λ y. ItemsStand t k y i') (λ y. OwnStand t k y (record { items = i'; stored = d })) r (f σ.items) _ x _ e (h σ.items s.items)
         (λ p q. record { section = s.section; items = q; stored = s.stored; bss = s.bss; bss_limit = s.bss_limit })
 
     pub items_stopped : (n : ℕ) → r ≡ refused n
@@ -89,7 +89,7 @@ module _ (t : List ℕ) (k : Room) (c : OwnCounters) where
         → Steps (OwnStand t k) c (record { items = i; stored = d }) (value (record { section = c.section; items = c.items; stored = x; bss = c.bss }))
         (record { items = i; stored = d' }) (λ σ. mapped (with_stored σ) (f σ.stored))
     stored_go x e σ s =
-        lift_go _ _ r (f σ.stored) _ x _ e (h σ.stored s.stored)
+        lift_go (λ y. StoredStand t k y d') (λ y. OwnStand t k y (record { items = i; stored = d' })) r (f σ.stored) _ x _ e (h σ.stored s.stored)
         (λ p q. record { section = s.section; items = s.items; stored = q; bss = s.bss; bss_limit = s.bss_limit })
 
     pub stored_stopped : (n : ℕ) → r ≡ refused n
@@ -110,7 +110,7 @@ module _ (t : List ℕ) (k : Room) (c : OwnCounters) where
         (λ σ. mapped (with_bss σ) (bss_line x σ.bss))
     bss_go n e σ s =
         rw (← s.bss)
-        (lift_go Alike _ r (bss_line x c.bss) _ n _ e (alike (bss_line x c.bss) h (bss_line_fits x c.bss))
+        (lift_go Alike (λ y. OwnStand t k y b) r (bss_line x c.bss) _ n _ e (alike (bss_line x c.bss) h (bss_line_fits x c.bss))
         (λ p q. record { section = s.section; items = s.items; stored = s.stored; bss = q.0; bss_limit = q.1 }))
 
     pub bss_stopped : (n : ℕ) → r ≡ refused n → Steps (OwnStand t k) c b (refused n) b (λ σ. mapped (with_bss σ) (bss_line x σ.bss))
@@ -151,7 +151,7 @@ module _ (t : List ℕ) (k : Room) (c : RestCounters) (line : ℕ) where
     pub equate_go : (n : ℕ) → r ≡ value n
         → Steps (RestStand t k) c (record { equates = e; own = o }) (value (record { equates = n; own = c.own })) (record { equates = e'; own = o }) (statement_step k line said)
     unfolding statement_step
-    equate_go n q σ s = lift_go _ _ r _ _ n _ q (added σ s) (λ es p. record { equates = p; own = s.own })
+    equate_go n q σ s = lift_go (λ y. EquatesStand t k y e') (λ y. RestStand t k y (record { equates = e'; own = o })) r _ _ n _ q (added σ s) (λ es p. record { equates = p; own = s.own })
 
     pub equate_stopped : (n : ℕ) → r ≡ refused n
         → Steps (RestStand t k) c (record { equates = e; own = o }) (refused n) (record { equates = e'; own = o }) (statement_step k line said)
@@ -164,7 +164,7 @@ module _ (t : List ℕ) (k : Room) (c : RestCounters) (line : ℕ) where
         → Steps (RestStand t k) c (record { equates = e; own = o }) (value (record { equates = c.equates; own = y })) (record { equates = e; own = o' })
         (statement_step k line (own x))
     unfolding statement_step
-    own_go y q σ s = lift_go _ _ r (own_line k line x σ.own) _ y _ q (h σ.own s.own) (λ ω p. record { equates = s.equates; own = p })
+    own_go y q σ s = lift_go (λ z. OwnStand t k z o') (λ z. RestStand t k z (record { equates = e; own = o' })) r (own_line k line x σ.own) _ y _ q (h σ.own s.own) (λ ω p. record { equates = s.equates; own = p })
 
     pub own_stopped : (n : ℕ) → r ≡ refused n
         → Steps (RestStand t k) c (record { equates = e; own = o }) (refused n) (record { equates = e; own = o' }) (statement_step k line (own x))

@@ -65,7 +65,7 @@ above_more line (y ∷ ys) x h = by (ltb y.line line) (above_more line ys x h)
 above_all : (line n m : ℕ) (xs : List ItemLine) → Each (ItemBelow line) xs → Consecutive n xs m → n + words_above line xs ≡ m
 unfolding words_above
 above_all line n m [] b g = omega (arith, g)
-above_all line n m (x ∷ xs) b g = rw (words_above, lt-ltb x.line line b.0) (omega (arith, above_all line _ m xs b.1 g.1))
+above_all line n m (x ∷ xs) b g = rw (words_above, lt-ltb x.line line b.0) (omega (arith, above_all line (n + reserved_words x.item x.source.bytes) m xs b.1 g.1))
 
 -- ---- what the lines reach
 

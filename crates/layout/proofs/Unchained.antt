@@ -4,7 +4,7 @@ use Prim.Native.Nat.{ℕ, suc, ◌+◌, ◌≤◌, ◌<◌}
 use mathlib.Core.Path.{◌≡◌, refl, sym, ◌∙◌, ap, ap₂, subst}
 use mathlib.Core.Logic.{◌⊎◌, inl, inr}
 use mathlib.Core.List.{List, [], ◌∷◌, ◌++◌, map}
-use mathlib.Core.Bool.{Bool, true, false, ◌||◌, true≢false, false≢true}
+use mathlib.Core.Bool.{Bool, true, false, not, ◌||◌, true≢false, false≢true}
 use mathlib.Core.Option.{Option, none, some}
 use native.Mathlib.Decide.{dec_lt}
 use native.Mathlib.Omega.{arith}
@@ -15,7 +15,7 @@ use Rattle.numbers.proofs.Prefixes.{same_equal}
 use Rattle.layout.specs.Bytes.{is_one_of}
 use Rattle.layout.specs.Pieces.{Piece}
 use Rattle.layout.specs.Limits.{Lent}
-use Rattle.layout.specs.Expressions.{Token, plus, minus, dot, number, name, unreadable, Wanted, term, joint}
+use Rattle.layout.specs.Expressions.{Token, Wanted, dot, joint, minus, name, negative, number, plus, positive, term, unreadable}
 use Rattle.layout.specs.State.{Equate, State}
 use Rattle.layout.specs.Addresses.{address_at}
 use Rattle.layout.specs.Rounds.{or_else, as_number}
@@ -64,7 +64,7 @@ module _ (look : List ℕ → Option ℤ) (here : ℤ) where
   unfolding terms_from names_in
   all_known w [] us v e s = λ n h c. false≢true h
   all_known (term j o) (plus ∷ ts) us v e s = all_known (term j o) ts us v e s
-  all_known (term j o) (minus ∷ ts) us v e s = all_known _ ts us v e s
+  all_known (term j o) (minus ∷ ts) us v e s = all_known (term j (not o)) ts us v e s
   all_known (term j o) (dot ∷ ts) us v e s = with_atom j o _ ts (λ _. all_known joint ts) us v e s
   all_known (term j o) (number z ∷ ts) us v e s = with_atom j o _ ts (λ _. all_known joint ts) us v e s
   all_known (term j o) (name m ∷ ts) us v e s =
@@ -75,8 +75,8 @@ module _ (look : List ℕ → Option ℤ) (here : ℤ) where
       by n c k true p h more = k (ap look (same_equal m n p) ∙ c)
       by n c k false p h more = more h c
   all_known (term j o) (unreadable ∷ ts) us v e s = absurd (none-some e)
-  all_known joint (plus ∷ ts) us v e s = all_known _ ts us v e s
-  all_known joint (minus ∷ ts) us v e s = all_known _ ts us v e s
+  all_known joint (plus ∷ ts) us v e s = all_known (term positive positive) ts us v e s
+  all_known joint (minus ∷ ts) us v e s = all_known (term negative positive) ts us v e s
   all_known joint (dot ∷ ts) us v e s = absurd (none-some e)
   all_known joint (number z ∷ ts) us v e s = absurd (none-some e)
   all_known joint (name m ∷ ts) us v e s = absurd (none-some e)
@@ -113,6 +113,7 @@ module _ {A B : Type 0} (P : A → List B → B → List B → Type 0) where
       among_more : {y : B} (ys : List B) → Among y ys → Among y (ys ++ r ∷ [])
       among_more (z ∷ ys) first = first
       among_more (z ∷ ys) (later i) = later (among_more ys i)
+      among_more [] never = elim never [ ]
 
   own_among : {x : A} {xs : List A} (a : Among x xs) (up rs : List B) (h : OneByOne P xs up rs) → Among (record_at a up rs h).own rs
   own_among first up [] h = absurd h
@@ -155,6 +156,7 @@ largest_in : {r : EquateAt} (used : List ℕ → Bool) (more : ℕ) (rs : List E
 unfolding largest
 largest_in used more (r ∷ rs) first u = rw u (omega arith)
 largest_in used more (x ∷ rs) (later a) u = omega (arith, largest_in used more rs a u)
+largest_in {r = r} used more [] never u = elim never [ ]
 
 -- the last equate of a chain uses the name that it reaches
 last_use : {es : List Equate} {e : Equate} {n : List ℕ} → Among e es → Reaches es e n → (d : Equate) × Among d es × (is_used d n ≡ true)

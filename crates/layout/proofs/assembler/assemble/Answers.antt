@@ -29,18 +29,3 @@ returns-in-Refused c =
     call-refused a.text.now a.base b₀ b₁ b (same-lengths b₀ b₁ c.clear.auto.0 c.clear.auto.1.0 c.clear.auto.1.1.0 c.clear.auto.1.1.1.0 c.clear.auto.1.1.1.1.0)
     (same-lengths b₁ b c.lay_out.auto.1.1.0 c.lay_out.auto.1.1.1.0 c.lay_out.auto.1.1.1.1.0 c.lay_out.auto.1.1.1.1.1.0 c.lay_out.auto.1.1.1.1.1.1.0) _ _ (rw c.in-Refused.is at c.lay_out.ensures) b'
     (zeroed b b' c.refuse.ensures.1 c.refuse.ensures.2 c.refuse.ensures.3 c.refuse.ensures.4 c.refuse.ensures.5) _ c.refuse.ensures.0
-
-pub shape_of-words-in-Refused : goal.shape_of-words-in-Refused
-shape_of-words-in-Refused c = omega (arith, c.clear.auto, c.lay_out.auto, c.refuse.auto)
-
-pub shape_of-data_bytes-in-Refused : goal.shape_of-data_bytes-in-Refused
-shape_of-data_bytes-in-Refused c = omega (arith, c.clear.auto, c.lay_out.auto, c.refuse.auto)
-
-pub shape_of-labels-in-Refused : goal.shape_of-labels-in-Refused
-shape_of-labels-in-Refused c = omega (arith, c.clear.auto, c.lay_out.auto, c.refuse.auto)
-
-pub shape_of-equates-in-Refused : goal.shape_of-equates-in-Refused
-shape_of-equates-in-Refused c = omega (arith, c.clear.auto, c.lay_out.auto, c.refuse.auto)
-
-pub shape_of-items-in-Refused : goal.shape_of-items-in-Refused
-shape_of-items-in-Refused c = omega (arith, c.clear.auto, c.lay_out.auto, c.refuse.auto)

@@ -19,9 +19,6 @@ after_lines-requires c =
     let q = lines-read a.text.now c.of-room.result a.base _ _ _ _ _ _ _ _ _ pre.1 pre.0 pre.2 (room_words _ (lengths (buffers a.words.now a.data-bytes.now a.labels.now a.equates.now a.items.now)) c.of-room.ensures) (line_stage c.of-room.result 0 (line_pieces 0 (lines a.text.now)) start) (rw c.in-Through.is at c.line_stage.ensures) in
     q.read
 
-pub shape_of-labels-in-Through : goal.shape_of-labels-in-Through
-shape_of-labels-in-Through c = omega (arith, c.line_stage.auto, c.after_lines.auto)
-
 pub returns-in-Through : goal.returns-in-Through
 returns-in-Through c =
     let a = c.args in

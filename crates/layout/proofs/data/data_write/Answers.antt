@@ -10,12 +10,11 @@ pub returns-then-room-at : goal.returns-then-room-at
 returns-then-room-at c = data_full _ _ _ _ _ _ c.args.write _ c.size-n.ensures.0 c.if-room-at.true
 
 pub put-requires : goal.put-requires
-put-requires c =
-    (
-      c.requires.2,
-      write-sized _ _ _ c.args.write c.requires.2 c.size-n.ensures.0,
-      rw (length_mid c.args.st.bytes c.args.data-bytes.now) (omega (arith, c.if-room-at.false, c.requires.0.stands.lent)),
-    )
+put-requires c = (
+  c.requires.2,
+  write-sized _ _ _ c.args.write c.requires.2 c.size-n.ensures.0,
+  rw (length_mid c.args.st.bytes c.args.data_bytes.now) (omega (arith, c.if-room-at.false, c.requires.0.stands.lent)),
+)
 
 pub returns-in-Now : goal.returns-in-Now
 returns-in-Now c =

@@ -24,8 +24,7 @@ slice_bounds-emit_item-start c = omega (arith, emit-within c.requires c.loop-k.i
 pub emit_item-requires : goal.emit_item-requires
 emit_item-requires c =
     let u = c.requires in
-    let inv = c.loop-k.invariant in
-    (
+    let inv = c.loop-k.invariant in (
       record { it = u.scope; stands = u.names },
       item_record_fits u inv c.loop-k-test.true c.get_item-item.result c.get_item-item.ensures _ (length_mid _ c.loop-k.words),
     )

@@ -24,8 +24,8 @@ module _ (l : After-look_up) where
 
   abbrev Stand : Scope → Type 0
   Stand names =
-      NamesStand start.args.text.now start.args.labels.now start.args.label-index.now start.args.label-count
-      start.args.equates.now start.args.equate-index.now start.args.equate-count names
+      NamesStand start.args.text.now start.args.labels.now start.args.label_index.now start.args.label_count
+      start.args.equates.now start.args.equate_index.now start.args.equate_count names
 
   come : (names : Scope) → Stand names → looked_up_as l.look_up.result ≡ and_then (wanted start.args.pseudo (pseudo_operands start.args.s.now)) (looked_up_in names)
   come names stand = rw l.before.wanted_by.ensures at (l.look_up.ensures names stand)

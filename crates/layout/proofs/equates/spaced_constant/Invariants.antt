@@ -9,7 +9,7 @@ use Rattle.layout.specs.Code.Names.{EquateTable}
 use Rattle.layout.proofs.equates.spaced_constant.Given as goal
 
 abbrev pub invariant-loop-k : goal.invariant-loop-k
-invariant-loop-k l =     (ks : List Known) → EquateTable l.text l.equates l.index l.count ks → constant (drop l.k ks) (one_spaced l.operand) ≡ constant ks (one_spaced l.operand)
+invariant-loop-k l = (ks : List Known) → EquateTable l.text l.equates l.index l.count ks → constant (drop l.k ks) (one_spaced l.operand) ≡ constant ks (one_spaced l.operand)
 
 abbrev pub decreases-loop-k : goal.decreases-loop-k
 decreases-loop-k l = l.count - l.k

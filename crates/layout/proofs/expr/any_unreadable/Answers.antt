@@ -7,13 +7,13 @@ use Rattle.layout.proofs.expr.any_unreadable.Goals as goal
 use Rattle.layout.proofs.expr.any_unreadable.Goals.{In-At}
 
 pub loop-token-init : goal.loop-token-init
-loop-token-init c = unreadable-start c.args.one-space c.args.s.now
+loop-token-init c = unreadable-start c.args.one_space c.args.s.now
 
 pub returns-in_default : goal.returns-in_default
 returns-in_default c = sym (sym c.loop-token.invariant ∙ unreadable_end _ c.args.s.now c.loop-token.at (rw c.in_default.is at c.token_of.ensures))
 
 -- the token read, after the test of it
-read : (c : In-At) → TokenLeads c.args.one-space c.args.s.now c.loop-token.at
+read : (c : In-At) → TokenLeads c.args.one_space c.args.s.now c.loop-token.at
     c.in-At.token c.in-At.after
 read c = rw c.in-At.is at c.token_of.ensures
 

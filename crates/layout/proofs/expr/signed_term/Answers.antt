@@ -16,7 +16,7 @@ pub returns-in_default : goal.returns-in_default
 returns-in_default c = signs_end _ _ _ _ c.loop-token.at c.loop-token.invariant (rw c.in_default.is at c.token_of.ensures)
 
 -- the token read
-read : (c : In-At) → TokenLeads c.args.one-space c.args.s.now c.loop-token.at
+read : (c : In-At) → TokenLeads c.args.one_space c.args.s.now c.loop-token.at
     c.in-At.token c.in-At.after
 read c = rw c.in-At.is at c.token_of.ensures
 

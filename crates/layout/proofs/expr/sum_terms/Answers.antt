@@ -20,23 +20,23 @@ loop-joining-init c = λ names n later x. refl
 
 -- what is summed so far
 goes : (d : At-loop-joining) (names : Scope)
-    → NamesStand d.args.text.now d.args.labels.now d.args.label-index.now d.args.label-count d.args.equates.now d.args.equate-index.now d.args.equate-count names
-    → GoesOn (look_in names) d.args.one-space d.args.s.now (pos d.args.here) (sum_on d.args.one-space d.args.s.now (pos d.args.here) d.args.from) (record { sum = to_z w64 d.loop-joining.sum-bits; at = d.loop-joining.at })
+    → NamesStand d.args.text.now d.args.labels.now d.args.label_index.now d.args.label_count d.args.equates.now d.args.equate_index.now d.args.equate_count names
+    → GoesOn (look_in names) d.args.one_space d.args.s.now (pos d.args.here) (sum_on d.args.one_space d.args.s.now (pos d.args.here) d.args.from) (record { sum = to_z w64 d.loop-joining.sum-bits; at = d.loop-joining.at })
 goes d names n =
     let fit : SFits w64 d.args.from.sum = search rules in
     subst
-    (λ (z : ℤ). GoesOn (look_in names) d.args.one-space d.args.s.now (pos d.args.here) (sum_on d.args.one-space d.args.s.now (pos d.args.here) (record { sum = z; at = d.args.from.at })) (record { sum = to_z w64 d.loop-joining.sum-bits; at = d.loop-joining.at }))
+    (λ (z : ℤ). GoesOn (look_in names) d.args.one_space d.args.s.now (pos d.args.here) (sum_on d.args.one_space d.args.s.now (pos d.args.here) (record { sum = z; at = d.args.from.at })) (record { sum = to_z w64 d.loop-joining.sum-bits; at = d.loop-joining.at }))
     (to_z-of_z fit) (d.loop-joining.invariant names n)
 
 -- what joins the term
-joint : (c : In-Operator) → JointAt c.args.one-space c.args.s.now c.loop-joining.at (Operator c.in-Operator.joining c.in-Operator.k)
+joint : (c : In-Operator) → JointAt c.args.one_space c.args.s.now c.loop-joining.at (Operator c.in-Operator.joining c.in-Operator.k)
 joint c = rw c.in-Operator.is at c.joint_at.ensures
 
 pub returns-in_default : goal.returns-in_default
 returns-in_default c = λ names n. sum_missing _ _ _ _ _ _ c.loop-joining.at (goes (goal.at.returns-in_default c).At-loop-joining names n) c.in-Operator.joining c.in-Operator.k (joint (goal.at.returns-in_default c).In-Operator) (rw c.in_default.is at c.signed_term.ensures)
 
 -- the term read
-term : (c : In-Found) → TermStands c.args.one-space c.args.s.now c.in-Operator.k c.in-Found.own c.in-Found.token c.in-Found.after
+term : (c : In-Found) → TermStands c.args.one_space c.args.s.now c.in-Operator.k c.in-Found.own c.in-Found.token c.in-Found.after
 term c = rw c.in-Found.is at c.signed_term.ensures
 
 pub returns-in_default-term_value : goal.returns-in_default-term_value
@@ -44,7 +44,7 @@ returns-in_default-term_value c = λ names n. sum_waits _ _ _ _ _ _ c.loop-joini
 
 -- its value
 valued : (c : In-Is) (names : Scope)
-    → NamesStand c.args.text.now c.args.labels.now c.args.label-index.now c.args.label-count c.args.equates.now c.args.equate-index.now c.args.equate-count names
+    → NamesStand c.args.text.now c.args.labels.now c.args.label_index.now c.args.label_count c.args.equates.now c.args.equate_index.now c.args.equate_count names
     → some c.in-Is.v ≡ term_value (look_in names) (pos c.args.here) (token_of c.args.s.now c.in-Found.token)
 valued c names n = ap value_of (sym c.in-Is.is) ∙ c.term_value.ensures names n
 
@@ -54,7 +54,7 @@ returns-in_default-add_term c =
     λ names n. sum_beyond _ _ _ _ _ _ c.loop-joining.at (goes (goal.at.returns-in_default-add_term c).At-loop-joining names n) c.in-Operator.joining c.in-Operator.k (joint (goal.at.returns-in_default-add_term c).In-Operator) _ _ _ (term (goal.at.returns-in_default-add_term c).In-Found) _ (valued (goal.at.returns-in_default-add_term c).In-Is names n) (rw (to_z-of_z fit, c.in_default-add_term.is) at c.add_term.ensures)
 
 pub loop-joining-smaller : goal.loop-joining-smaller
-loop-joining-smaller c = omega (arith, joint_further c.args.one-space c.args.s.now c.loop-joining.at c.in-Operator.joining c.in-Operator.k (joint (goal.at.loop-joining-smaller c).In-Operator), (term (goal.at.loop-joining-smaller c).In-Found).further, (term (goal.at.loop-joining-smaller c).In-Found).within)
+loop-joining-smaller c = omega (arith, joint_further c.args.one_space c.args.s.now c.loop-joining.at c.in-Operator.joining c.in-Operator.k (joint (goal.at.loop-joining-smaller c).In-Operator), (term (goal.at.loop-joining-smaller c).In-Found).further, (term (goal.at.loop-joining-smaller c).In-Found).within)
 
 pub loop-joining-preserved : goal.loop-joining-preserved
 loop-joining-preserved c =

@@ -40,7 +40,7 @@ loop-k-init c = (refl, λ base σ bytes places s m. m)
 
 -- the equate whose turn it is, of the equates that the buffers stood for at the start
 here : (d : In-loop-k)
-    → Here (frame_of d.args.text.now d.args.equate-index.now d.args.count d.requires.base d.requires.state (length d.args.equates.now) (length d.args.partials.now))
+    → Here (frame_of d.args.text.now d.args.equate_index.now d.args.count d.requires.base d.requires.state (length d.args.equates.now) (length d.args.partials.now))
     (d.rounds.round + 1) d.rounds.pending d.loop-k.equates d.loop-k.partials d.loop-k.evaluations d.loop-k.pending d.loop-k.k
 here d =
     let stands = d.requires.stands in
@@ -87,39 +87,38 @@ get_equate-line-requires c =
     omega (arith, equates_lent h.walk.table.rows, c.loop-k-test.true)
 
 pub loop-k-preserved : goal.loop-k-preserved
-loop-k-preserved c =
-    (
-      c.loop-k.invariant.0,
-      λ base σ bytes places s m.
-          let h = walk_here _ _ _ _ _ _ _ _ (c.loop-k.invariant.1 base σ bytes places s m) c.loop-k-test.true in
-          ⊎_elim
-          (λ w.
-          let p = pending_here _ s _ _ _ _ _ _ _ h (eqb-true _ _ (sym c.is_pending.ensures ∙ w.0.taken)) in
-          let g = w.4.ensures _ (again_here _ s _ _ _ _ _ _ _ h _ w.3.ensures c.loop-k-test.true p) in
-          let t = gave_here _ s _ _ _ _ _ _ _ h _ g.gives in
-          let fit : SFits w64 w.6.given.0.0 = search rules in
-          rw (w.13, w.14 ∙ g.counted)
-          (next_found _ _ _ _ _ _ _ _ h p w.6.given.0.0 (ap evaluated_of (sym w.6.given.1) ∙ t.answers) _ (ap length w.12 ∙ w.9.kept.0)
-          (w.12 ∙ (rw (to_z-of_z fit) at w.9.ensures) ∙ ap (λ (fs : List RecordField). put (c.loop-k.k * equate_size) (field_bytes fs) c.loop-k.equates) (record_here _ s _ _ _ _ _ _ _ h w.6.given.0.0))
-          _ (omega (arith, w.15, some_pending _ _ _ _ _ _ _ _ h p))))
-          (⊎_elim
-          (λ w.
-          let p = pending_here _ s _ _ _ _ _ _ _ h (eqb-true _ _ (sym c.is_pending.ensures ∙ w.0.taken)) in
-          let g = w.4.ensures _ (again_here _ s _ _ _ _ _ _ _ h _ w.3.ensures c.loop-k-test.true p) in
-          let t = gave_here _ s _ _ _ _ _ _ _ h _ g.gives in
-          let fit : SFits w64 w.6.given.0.0.sum = record { sfits = w.7.given.0.1.1.0.1 } in
-          rw (w.12, w.14 ∙ g.counted, w.15)
-          (next_waits _ _ _ _ _ _ _ _ h p (ap evaluated_of (sym w.6.given.1) ∙ t.answers) _ (fit_in64 _ _ (fit_some _ fit)) (rw w.6.given.1 at t.blocked).1 _ (w.13 ∙ w.9.ensures)))
-          (λ w.
-          let o = found_here _ s _ _ _ _ _ _ _ h (eqb-false _ _ (sym c.is_pending.ensures ∙ w.0.left)) in
-          rw (w.1, w.2, w.3, w.4) (next_kept _ _ _ _ _ _ _ _ h o.0 o.1)))
-          c.if-is_pending.branch,
-    )
+loop-k-preserved c = (
+  c.loop-k.invariant.0,
+  λ base σ bytes places s m.
+      let h = walk_here _ _ _ _ _ _ _ _ (c.loop-k.invariant.1 base σ bytes places s m) c.loop-k-test.true in
+      ⊎_elim
+      (λ w.
+      let p = pending_here _ s _ _ _ _ _ _ _ h (eqb-true _ _ (sym c.is_pending.ensures ∙ w.0.taken)) in
+      let g = w.4.ensures _ (again_here _ s _ _ _ _ _ _ _ h _ w.3.ensures c.loop-k-test.true p) in
+      let t = gave_here _ s _ _ _ _ _ _ _ h _ g.gives in
+      let fit : SFits w64 w.6.given.0.0 = search rules in
+      rw (w.13, w.14 ∙ g.counted)
+      (next_found _ _ _ _ _ _ _ _ h p w.6.given.0.0 (ap evaluated_of (sym w.6.given.1) ∙ t.answers) _ (ap length w.12 ∙ w.9.kept.0)
+      (w.12 ∙ (rw (to_z-of_z fit) at w.9.ensures) ∙ ap (λ (fs : List RecordField). put (c.loop-k.k * equate_size) (field_bytes fs) c.loop-k.equates) (record_here _ s _ _ _ _ _ _ _ h w.6.given.0.0))
+      _ (omega (arith, w.15, some_pending _ _ _ _ _ _ _ _ h p))))
+      (⊎_elim
+      (λ w.
+      let p = pending_here _ s _ _ _ _ _ _ _ h (eqb-true _ _ (sym c.is_pending.ensures ∙ w.0.taken)) in
+      let g = w.4.ensures _ (again_here _ s _ _ _ _ _ _ _ h _ w.3.ensures c.loop-k-test.true p) in
+      let t = gave_here _ s _ _ _ _ _ _ _ h _ g.gives in
+      let fit : SFits w64 w.6.given.0.0.sum = record { sfits = w.7.given.0.1.1.0.1 } in
+      rw (w.12, w.14 ∙ g.counted, w.15)
+      (next_waits _ _ _ _ _ _ _ _ h p (ap evaluated_of (sym w.6.given.1) ∙ t.answers) _ (fit_in64 _ _ (fit_some _ fit)) (rw w.6.given.1 at t.blocked).1 _ (w.13 ∙ w.9.ensures)))
+      (λ w.
+      let o = found_here _ s _ _ _ _ _ _ _ h (eqb-false _ _ (sym c.is_pending.ensures ∙ w.0.left)) in
+      rw (w.1, w.2, w.3, w.4) (next_kept _ _ _ _ _ _ _ _ h o.0 o.1)))
+      c.if-is_pending.branch,
+)
 
 -- a round's end, of whatever the buffers stood for at the start
 ended : (d : After-loop-k) (base : ℕ) (σ : State)
-    → RoundsStand d.args.text.now d.args.labels.now d.args.label-index.now d.args.label-count d.args.starts d.args.equates.now d.args.equate-index.now d.args.count d.args.exprs.now d.args.partials.now base σ
-    → Walking (frame_of d.args.text.now d.args.equate-index.now d.args.count base σ (length d.args.equates.now) (length d.args.partials.now))
+    → RoundsStand d.args.text.now d.args.labels.now d.args.label_index.now d.args.label_count d.args.starts d.args.equates.now d.args.equate_index.now d.args.count d.args.exprs.now d.args.partials.now base σ
+    → Walking (frame_of d.args.text.now d.args.equate_index.now d.args.count base σ (length d.args.equates.now) (length d.args.partials.now))
     (d.rounds.round + 1) d.rounds.pending d.loop-k.equates d.loop-k.partials d.loop-k.evaluations d.loop-k.pending d.loop-k.k
 ended d base σ s =
     d.loop-k.invariant.1 _ _ _ _ (standing s) (round_begins _ _ _ _ _ _ (d.rounds.invariant.1 base σ s) d.rounds-test.true)
@@ -135,8 +134,8 @@ rounds-preserved c = (c.loop-k.invariant.0 ∙ c.rounds.invariant.0, λ base σ 
 
 -- where the loops were left
 over : (c : Left-rounds) (base : ℕ) (σ : State)
-    → RoundsStand c.args.text.now c.args.labels.now c.args.label-index.now c.args.label-count c.args.starts c.args.equates.now c.args.equate-index.now c.args.count c.args.exprs.now c.args.partials.now base σ
-    → Over (frame_of c.args.text.now c.args.equate-index.now c.args.count base σ (length c.args.equates.now) (length c.args.partials.now))
+    → RoundsStand c.args.text.now c.args.labels.now c.args.label_index.now c.args.label_count c.args.starts c.args.equates.now c.args.equate_index.now c.args.count c.args.exprs.now c.args.partials.now base σ
+    → Over (frame_of c.args.text.now c.args.equate_index.now c.args.count base σ (length c.args.equates.now) (length c.args.partials.now))
     c.rounds-test.equates c.rounds-test.partials c.rounds-test.evaluations c.rounds-test.refused c.rounds-test.number c.rounds-test.line
 over c base σ s =
     ⊎_elim
@@ -158,20 +157,8 @@ over c base σ s =
     (round_stuck _ _ _ _ _ _ _ _ m w.2.left w.3.taken ∙ refusal_at w.12 (w.13 ∙ w.5.ensures _ _ _ m.walk.table)))))
     c.rounds-test.branch
 
-pub shape_of-equates-then-refused : goal.shape_of-equates-then-refused
-shape_of-equates-then-refused c = (over (goal.at.shape_of-equates-then-refused c).Left-rounds c.requires.base c.requires.state c.requires.stands).kept
-
-pub shape_of-partials-then-refused : goal.shape_of-partials-then-refused
-shape_of-partials-then-refused c = (over (goal.at.shape_of-partials-then-refused c).Left-rounds c.requires.base c.requires.state c.requires.stands).room
-
 pub returns-then-refused : goal.returns-then-refused
 returns-then-refused c = λ s. rw ((over (goal.at.returns-then-refused c).Left-rounds s.base s.state s.stands).stops c.if-refused.true) refl
-
-pub shape_of-equates : goal.shape_of-equates
-shape_of-equates c = (over (goal.at.shape_of-equates c).Left-rounds c.requires.base c.requires.state c.requires.stands).kept
-
-pub shape_of-partials : goal.shape_of-partials
-shape_of-partials c = (over (goal.at.shape_of-partials c).Left-rounds c.requires.base c.requires.state c.requires.stands).room
 
 pub returns : goal.returns
 returns c =

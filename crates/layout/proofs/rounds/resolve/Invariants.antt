@@ -9,18 +9,18 @@ use Rattle.layout.proofs.RoundSteps.{frame_of, Standing, Walking, Rounding}
 use Rattle.layout.proofs.rounds.resolve.Given as goal
 
 abbrev pub invariant-loop-k : goal.invariant-loop-k
-invariant-loop-k l =     (l.refused ≡ l.initial.refused)
+invariant-loop-k l = (l.refused ≡ l.initial.refused)
     × ((base : ℕ) (σ : State) (bytes places : ℕ) → Standing (frame_of l.text l.equate_index l.count base σ bytes places) l.labels l.label_index l.label_count l.starts l.exprs
     → Walking (frame_of l.text l.equate_index l.count base σ bytes places) l.round l.before l.initial.equates l.initial.partials l.initial.evaluations l.initial.pending l.initial.k
     → Walking (frame_of l.text l.equate_index l.count base σ bytes places) l.round l.before l.equates l.partials l.evaluations l.pending l.k)
 
 abbrev pub decreases-loop-k : goal.decreases-loop-k
-decreases-loop-k l =     l.count - l.k
+decreases-loop-k l = l.count - l.k
 
 abbrev pub invariant-rounds : goal.invariant-rounds
-invariant-rounds l =     (l.refused ≡ false)
+invariant-rounds l = (l.refused ≡ false)
     × ((base : ℕ) (σ : State) → RoundsStand l.text l.labels l.label_index l.label_count l.starts l.initial.equates l.equate_index l.count l.exprs l.initial.partials base σ
     → Rounding (frame_of l.text l.equate_index l.count base σ (length l.initial.equates) (length l.initial.partials)) l.equates l.partials l.evaluations l.pending l.round)
 
 abbrev pub decreases-rounds : goal.decreases-rounds
-decreases-rounds l =     l.pending
+decreases-rounds l = l.pending

@@ -34,9 +34,8 @@ pub overflow_sub-mark : goal.overflow_sub-mark
 overflow_sub-mark c = start c
 
 pub returns : goal.returns
-returns c =
-    (
-      refl,
-      line_cut _ _ _ _ c.requires c.cut_from-mark.ensures c.stop_from-stop.ensures _ c.trim_span_far-inner.ensures
-          _ c.end_from-end.ensures _ c.least.ensures,
-    )
+returns c = (
+  refl,
+  line_cut _ _ _ _ c.requires c.cut_from-mark.ensures c.stop_from-stop.ensures _ c.trim_span_far-inner.ensures
+      _ c.end_from-end.ensures _ c.least.ensures,
+)

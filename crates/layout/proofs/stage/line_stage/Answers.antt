@@ -21,14 +21,13 @@ loop-at-init c =
     (head_first _ _ _ c.requires.1, refl, refl, refl, refl, refl, refl, refl, directives, pseudos)
 
 pub step_line-requires : goal.step_line-requires
-step_line-requires c =
-    (
-      record { it = c.loop-at.invariant.0.σ; stands = c.loop-at.invariant.0.stands },
-      (c.requires.0, omega (arith, c.loop-at.invariant.0.counted, c.loop-at-test.true)),
-      c.cut_line-cut.ensures.1,
-      c.loop-at.invariant.8,
-      c.loop-at.invariant.9,
-    )
+step_line-requires c = (
+  record { it = c.loop-at.invariant.0.σ; stands = c.loop-at.invariant.0.stands },
+  (c.requires.0, omega (arith, c.loop-at.invariant.0.counted, c.loop-at-test.true)),
+  c.cut_line-cut.ensures.1,
+  c.loop-at.invariant.8,
+  c.loop-at.invariant.9,
+)
 
 pub returns-in-Stop : goal.returns-in-Stop
 returns-in-Stop c =
@@ -83,24 +82,3 @@ loop-at-preserved c =
 
 pub returns : goal.returns
 returns c = rw (turns_end _ _ _ _ _ _ c.loop-at.invariant.0 c.loop-at-test.false) c.loop-at.invariant.0.stands
-
-pub shape_of-labels-in-Stop : goal.shape_of-labels-in-Stop
-shape_of-labels-in-Stop c = c.step_line.auto.1.1.1.1.0 ∙ c.loop-at.invariant.1
-
-pub shape_of-index-in-Stop : goal.shape_of-index-in-Stop
-shape_of-index-in-Stop c = c.step_line.auto.1.1.1.1.1.0 ∙ c.loop-at.invariant.2
-
-pub shape_of-equates-in-Stop : goal.shape_of-equates-in-Stop
-shape_of-equates-in-Stop c = c.step_line.auto.1.1.1.1.1.1.0 ∙ c.loop-at.invariant.3
-
-pub shape_of-exprs-in-Stop : goal.shape_of-exprs-in-Stop
-shape_of-exprs-in-Stop c = c.step_line.auto.1.1.1.1.1.1.1.0 ∙ c.loop-at.invariant.4
-
-pub shape_of-items-in-Stop : goal.shape_of-items-in-Stop
-shape_of-items-in-Stop c = c.step_line.auto.1.1.1.1.1.1.1.1.0 ∙ c.loop-at.invariant.5
-
-pub shape_of-data_bytes-in-Stop : goal.shape_of-data_bytes-in-Stop
-shape_of-data_bytes-in-Stop c = c.step_line.auto.1.1.1.1.1.1.1.1.1.0 ∙ c.loop-at.invariant.6
-
-pub shape_of-label_words-in-Stop : goal.shape_of-label_words-in-Stop
-shape_of-label_words-in-Stop c = c.step_line.auto.1.1.1.1.1.1.1.1.1.1.0 ∙ c.loop-at.invariant.7

@@ -23,8 +23,7 @@ label_step-requires c =
 
 pub statement_step-requires : goal.statement_step-requires
 statement_step-requires c =
-    let a = c.args in
-    (
+    let a = c.args in (
       record { it = c.requires.0.it.rest; stands = c.requires.0.stands.rest },
       c.requires.1,
       line_says-within a.text.now a.cut.at a.cut.end (cut_order _ _ c.requires.2) (cut_end _ _ c.requires.2) a.st.rest.own.section c.line_of-parsed.result
@@ -50,15 +49,3 @@ pub returns-in-Stop : goal.returns-in-Stop
 returns-in-Stop c =
     label_stopped _ _ _ _ _ _ _ _ (cut_order _ _ c.requires.2) (cut_end _ _ c.requires.2) _ c.line_of-parsed.ensures _ c.place.ensures _
     c.label_step.ensures _ (ap count_of c.in-Stop.is)
-
-pub shape_of-labels-in-Now-statement_step : goal.shape_of-labels-in-Now-statement_step
-shape_of-labels-in-Now-statement_step c = c.label_step.auto.1.0
-
-pub shape_of-index-in-Now-statement_step : goal.shape_of-index-in-Now-statement_step
-shape_of-index-in-Now-statement_step c = c.label_step.auto.1.1.0
-
-pub shape_of-labels-in-Stop-statement_step : goal.shape_of-labels-in-Stop-statement_step
-shape_of-labels-in-Stop-statement_step c = c.label_step.auto.1.0
-
-pub shape_of-index-in-Stop-statement_step : goal.shape_of-index-in-Stop-statement_step
-shape_of-index-in-Stop-statement_step c = c.label_step.auto.1.1.0

@@ -10,12 +10,12 @@ use Rattle.layout.proofs.tokens.skip_blanks.Goals as goal
 pub returns-then-not-is_blank_in : goal.returns-then-not-is_blank_in
 returns-then-not-is_blank_in c =
     let other = sym c.is_blank_in.ensures ∙ not-true _ c.if-not-is_blank_in.true-raw in
-    omega (arith, leading-stop (blank_in c.args.one-space) c.args.s.now c.loop-i.i (search rules) other)
+    omega (arith, leading-stop (blank_in c.args.one_space) c.args.s.now c.loop-i.i (search rules) other)
 
 pub loop-i-preserved : goal.loop-i-preserved
 loop-i-preserved c =
     let one = sym c.is_blank_in.ensures ∙ not-false _ c.if-not-is_blank_in.false-raw in
-    omega (arith, leading_more (blank_in c.args.one-space) c.args.s.now c.loop-i.i (search rules) one)
+    omega (arith, leading_more (blank_in c.args.one_space) c.args.s.now c.loop-i.i (search rules) one)
 
 pub returns : goal.returns
-returns c = omega (arith, leading_end (blank_in c.args.one-space) c.args.s.now c.loop-i.i c.loop-i-test.false)
+returns c = omega (arith, leading_end (blank_in c.args.one_space) c.args.s.now c.loop-i.i c.loop-i-test.false)

@@ -9,7 +9,7 @@ use Rattle.numbers.specs.Code.Strings.{decoded_bytes}
 use Rattle.layout.proofs.writers.put_decoded.Given as goal
 
 abbrev pub invariant-loop-i : goal.invariant-loop-i
-invariant-loop-i l =     (l.i ≤ length l.s) × (l.n ≤ length (decoded_bytes l.s)) × (length l.dst ≡ length l.initial.dst)
+invariant-loop-i l = (l.i ≤ length l.s) × (l.n ≤ length (decoded_bytes l.s)) × (length l.dst ≡ length l.initial.dst)
     × (decoded (drop l.i l.s) ≡ some (drop l.n (decoded_bytes l.s))) × (l.dst ≡ take l.n (decoded_bytes l.s) ++ drop l.n l.initial.dst)
 
 abbrev pub decreases-loop-i : goal.decreases-loop-i

@@ -9,12 +9,11 @@ pub loop-i-init : goal.loop-i-init
 loop-i-init c = (omega arith, refl, fill_none _ 0)
 
 pub loop-i-preserved : goal.loop-i-preserved
-loop-i-preserved c =
-    (
-      omega arith,
-      simp length-set c.loop-i.invariant.1,
-      rw c.loop-i.invariant.2 (fill_more c.loop-i.i 0 _ (omega arith)),
-    )
+loop-i-preserved c = (
+  omega arith,
+  simp length-set c.loop-i.invariant.1,
+  rw c.loop-i.invariant.2 (fill_more c.loop-i.i 0 _ (omega arith)),
+)
 
 pub returns : goal.returns
 returns c =
