@@ -160,13 +160,13 @@ module _ (t dst part : List ℕ) (n : ℕ) (x : Write) (q : Quoted) (z : ℕ) (e
 
 -- ---- label words
 
-no_word : (t : List ℕ) (line p : ℕ) (x : Write) (ws : List LabelWord) → OneOf (0 ∷ 1 ∷ 2 ∷ []) (tag_of the_type x)
+no_word : (t : List ℕ) (line p : ℕ) (x : Write) (ws : List LabelWord) → ((q : Span) → x ≡ Address q → ⊥)
     → add_label_word line p (write_at t x) ws ≡ value ws
 unfolding add_label_word
 no_word t line p (Number w v) ws h = refl
 no_word t line p (Text q z) ws h = refl
 no_word t line p (Gap r) ws h = refl
-no_word t line p (Address q) ws h = absurd (miss (0 ∷ 1 ∷ 2 ∷ []) 3 tt h)
+no_word t line p (Address q) ws h = absurd (h q refl)
 
 pub label-word-sized : (r : LabelWordRecord) → length (field_bytes (label_word_fields r)) ≡ label_word_size
 unfolding field_bytes little_endian
@@ -174,7 +174,7 @@ label-word-sized r = refl
 
 module _ (t : List ℕ) (n : ℕ) (b : List ℕ) (line p : ℕ) (x : Write) where
   -- another write makes none
-  pub word_none : OneOf (0 ∷ 1 ∷ 2 ∷ []) (tag_of the_type x) → Steps (LabelWordsStand t) n b (value n) b (add_label_word line p (write_at t x))
+  pub word_none : ((q : Span) → x ≡ Address q → ⊥) → Steps (LabelWordsStand t) n b (value n) b (add_label_word line p (write_at t x))
   word_none h ws s = rw (no_word t line p x ws h) s
 
   module _ (q : Span) (e : x ≡ Address q) where

@@ -70,10 +70,10 @@ operand_span l q end e a b =
 
 module _ (t : List ℕ) (c : Cut) (part rest : Span) where
   -- no string
-  pub stored_other : (x : Store) → OneOf (0 ∷ 2 ∷ []) (tag_of store-type x) → (q : Piece) → rest ≡ span_of q
+  pub stored_other : (x : Store) → ((zeros : ℕ) → x ≡ Text zeros → ⊥) → (q : Piece) → rest ≡ span_of q
       → Own (InData (Stores x) rest) ≡ statement_code (says_in t c part (value (own (stores x q))))
   stored_other (Numbers w) h q e = rw (as_is (cut_line t c) (quote_between t c.part.start part.start) (value (own (stores (Numbers w) q))) refl, e) refl
-  stored_other (Text zeros) h q e = absurd (miss (0 ∷ 2 ∷ []) 1 tt h)
+  stored_other (Text zeros) h q e = absurd (h zeros refl)
   stored_other Float h q e = rw (as_is (cut_line t c) (quote_between t c.part.start part.start) (value (own (stores Float q))) refl, e) refl
 
   -- one behind a label with a quote, and any other
@@ -145,9 +145,9 @@ module _ (p : Piece) where
 
 -- ---- a string directive without a label
 
-pub elsewhere_bare : (s : Section) (xs : List ℕ) → OneOf (0 ∷ 2 ∷ []) (tag_of section-type s) → false ≡ is_bare s xs
+pub elsewhere_bare : (s : Section) (xs : List ℕ) → (s ≡ section.Data → ⊥) → false ≡ is_bare s xs
 elsewhere_bare section.Text xs h = refl
-elsewhere_bare section.Data xs h = absurd (miss (0 ∷ 2 ∷ []) 1 tt h)
+elsewhere_bare section.Data xs h = absurd (h refl)
 elsewhere_bare section.Bss xs h = refl
 
 pub no_string_bare : (xs : List ℕ) → is_string_row (row_in directives xs) ≡ false → false ≡ is_bare section.Data xs

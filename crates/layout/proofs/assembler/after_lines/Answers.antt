@@ -1,4 +1,6 @@
 -- `assembler::after_lines`: each stage asks what the one before it left.
+use mathlib.Core.List.{[]}
+use Rattle.layout.specs.Code.Calls.{buffers}
 use Rattle.layout.proofs.CallLaws.{symbols_ready, resolved_read, symbols_stop}
 use Rattle.layout.proofs.assembler.after_lines.Goals as goal
 
@@ -16,4 +18,4 @@ returns-in-Through c =
     (resolved_read s _ _ _ _ _ (rw c.in-Through.is at (c.resolve_symbols.ensures (symbols_ready s))))
 
 pub returns-in-Refused : goal.returns-in-Refused
-returns-in-Refused c = λ s. symbols_stop s _ _ _ _ _ (rw c.in-Refused.is at (c.resolve_symbols.ensures (symbols_ready s))) _
+returns-in-Refused c = λ s. symbols_stop s [] [] [] [] _ (rw c.in-Refused.is at (c.resolve_symbols.ensures (symbols_ready s))) (buffers [] [] [] [] [])

@@ -22,7 +22,7 @@ pub loop-write-preserved : goal.loop-write-preserved
 loop-write-preserved c =
     let next = rw c.in-As.is at c.next_write.ensures in
     writing_goes _ _ _ _ _ _ _ _ _ _ _ _ c.loop-write.invariant _ _ next.0 _ _ _ c.data_write.ensures
-    _ (ap data_of c.in-Now.is) c.data_write.auto.1.0 c.data_write.auto.1.1.0
+    _ (ap data_of c.in-Now.is) c.data_write.auto.data_bytes c.data_write.auto.label_words
 
 pub returns-in-Stop : goal.returns-in-Stop
 returns-in-Stop c =

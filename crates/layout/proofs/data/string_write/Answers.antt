@@ -6,12 +6,6 @@ use Rattle.numbers.specs.Code.Strings.{quoted_at}
 use Rattle.numbers.proofs.QuoteLaws.{quoted_within, quoted_none}
 use Rattle.layout.proofs.ReadingLaws.{string-read}
 use Rattle.layout.proofs.data.string_write.Goals as goal
-use Rattle.layout.proofs.data.string_write.Goals.{After-part_in-arg-1, In-Is}
-
-quoted-span : (d : In-Is)
-    → quoted_at
-    (spanned d.args.text.now d.args.part) ≡ some d.in-Is.quoted
-quoted-span d = sym (rw (d.span_bytes.ensures, d.in-Is.is) at d.parse_string.ensures)
 
 pub returns-in_default : goal.returns-in_default
 returns-in_default c =
@@ -19,7 +13,7 @@ returns-in_default c =
     (rw (quoted_none _ (sym none)) refl, tt)
 
 pub part_in-requires : goal.part_in-requires
-part_in-requires c = (c.requires.0, quoted_within _ _ (quoted-span c))
+part_in-requires c = (c.requires.0, quoted_within _ _ (sym (rw (c.span_bytes.ensures, c.in-Is.is) at c.parse_string.ensures)))
 
 pub returns : goal.returns
-returns c = string-read _ _ _ c.requires.0 _ c.requires.1 _ (quoted-span (goal.at.returns c).After-part_in-arg-1) c.part_in.ensures
+returns c = string-read _ _ _ c.requires.0 _ c.requires.1 _ (sym (rw (c.span_bytes.ensures, c.in-Is.is) at c.parse_string.ensures)) c.part_in.ensures

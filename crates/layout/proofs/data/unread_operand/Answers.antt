@@ -2,24 +2,21 @@
 use Prim.Native.Nat.{ℕ}
 use mathlib.Core.Path.{◌≡◌, refl, sym, ◌∙◌}
 use mathlib.Core.List.{List, [], ◌∷◌}
-use types.Run.{OneOf, miss}
-use denote.Enum.Declared.{tag_of}
 use borrow.Author.Tests.{not-true, not-false}
 use Rattle.numbers.specs.Results.{refused}
 use Rattle.layout.specs.declared.directives.Width.{Width}
 use Rattle.layout.specs.declared.directives.Width.TheVariants.{Byte, Half, Word, Dword}
 use Rattle.layout.specs.Directives.{unread}
-use Rattle.layout.specs.contracts.directives.Width.{the_type}
 use Rattle.layout.proofs.data.unread_operand.Goals as goal
 
-not-word : (w : Width) (s : List ℕ) → OneOf (0 ∷ 1 ∷ 3 ∷ []) (tag_of the_type w) → refused 6 ≡ unread w s
-not-word Byte s h = refl
-not-word Half s h = refl
-not-word Word s h = absurd (miss (0 ∷ 1 ∷ 3 ∷ []) 2 tt h)
-not-word Dword s h = refl
+not_word : (w : Width) (s : List ℕ) → (w ≡ Word → ⊥) → refused 6 ≡ unread w s
+not_word Byte s h = refl
+not_word Half s h = refl
+not_word Word s h = absurd (h refl)
+not_word Dword s h = refl
 
 pub returns-in_default : goal.returns-in_default
-returns-in_default c = (not-word c.args.width _ c.in_default.in_default-own.keys2, tt)
+returns-in_default c = (not_word c.args.width _ c.in_default.not-Word, tt)
 
 pub returns-then-not-is_label_name : goal.returns-then-not-is_label_name
 returns-then-not-is_label_name c =

@@ -3,7 +3,7 @@ use Rattle.layout.proofs.EquateLaws.{equate_stops, equate_goes}
 use Rattle.layout.proofs.equates.add_equate.Goals as goal
 
 pub returns-then-room-count : goal.returns-then-room-count
-returns-then-room-count c = equate_stops _ _ _ _ _ _ _ _ c.if-room-count.true
+returns-then-room-count c = equate_stops _ _ _ _ _ c.args.equates.now c.args.exprs.now _ c.if-room-count.true
 
 pub returns : goal.returns
 returns c =

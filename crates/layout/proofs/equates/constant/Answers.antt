@@ -14,6 +14,7 @@ use Rattle.layout.proofs.IndexLaws.{bucket_below}
 use Rattle.layout.proofs.KnownLaws.{equates_lent, table_room, is_found, found_as_read, seek_first, seek_less, seek_hit, seek_miss, seek_none, seek_value}
 use borrow.Author.Rules.{rules}
 use Rattle.layout.proofs.equates.constant.Goals as goal
+use Rattle.layout.proofs.equates.constant.Goals.{then-is_found, else-is_found}
 use Rattle.layout.proofs.equates.constant.Goals.{In-loop-entry}
 
 pub offset_bounds-index-bucket_of : goal.offset_bounds-index-bucket_of
@@ -56,10 +57,10 @@ loop-entry-preserved c =
     λ ks t.
     let read : (b : Bool) → c.is_found.result ≡ b → is_found (known_at ks (c.loop-entry.entry - 1)) c.args.name.now ≡ b =
     λ b e. found_as_read t c.args.name.now (c.loop-entry.entry - 1) (omega (arith, (c.loop-entry.invariant ks t).le, c.loop-entry-test.true)) b (sym c.is_found.ensures ∙ e) in
-    ⊎_elim
-    (λ w. rw w.1 (seek_hit t _ _ _ c.loop-entry-test.true (c.loop-entry.invariant ks t) (read true w.0.taken)))
-    (λ w. rw w.1 (seek_miss t _ _ _ c.loop-entry-test.true (c.loop-entry.invariant ks t) (read false w.0.left)))
-    c.if-is_found.branch
+    elim c.if-is_found.branch [
+      then-is_found w ↦ rw w.found-is (seek_hit t _ _ _ c.loop-entry-test.true (c.loop-entry.invariant ks t) (read true w.if-is_found.true))
+      | else-is_found w ↦ rw w.found-is (seek_miss t _ _ _ c.loop-entry-test.true (c.loop-entry.invariant ks t) (read false w.if-is_found.false))
+    ]
 
 pub returns-then-found-eq0 : goal.returns-then-found-eq0
 returns-then-found-eq0 c = λ ks t. seek_none t _ _ _ c.loop-entry-test.false (c.loop-entry.invariant ks t) c.if-found-eq0.true

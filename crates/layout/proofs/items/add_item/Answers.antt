@@ -6,7 +6,7 @@ use Rattle.layout.proofs.items.add_item.Goals as goal
 use Rattle.layout.proofs.items.add_item.Goals.{After-source-source}
 
 pub returns-then-room-count : goal.returns-then-room-count
-returns-then-room-count c = item_many _ _ _ _ _ _ _ _ c.if-room-count.true
+returns-then-room-count c = item_many _ _ _ _ c.args.items.now _ _ _ c.if-room-count.true
 
 pub overflow_add-words : goal.overflow_add-words
 overflow_add-words c =
@@ -15,7 +15,7 @@ overflow_add-words c =
     search rules
 
 pub returns-then-room-words : goal.returns-then-room-words
-returns-then-room-words c = item-full _ _ _ _ _ _ _ _ _ c.words.ensures c.if-room-count.false c.if-room-words.true
+returns-then-room-words c = item-full _ _ _ _ c.args.items.now _ _ _ _ c.words.ensures c.if-room-count.false c.if-room-words.true
 
 -- the source that the kind has lies within the text
 source-within : (d : After-source-source)

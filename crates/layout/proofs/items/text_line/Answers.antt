@@ -15,4 +15,4 @@ returns-in-Item c =
     c.add_item.ensures
 
 pub returns-in-Unsupported : goal.returns-in-Unsupported
-returns-in-Unsupported c = text-other _ _ _ c.kind_of.ensures _ _ _ _ _ c.in-Unsupported.is
+returns-in-Unsupported c = text-other _ _ _ c.kind_of.ensures _ _ _ c.args.items.now _ c.in-Unsupported.is

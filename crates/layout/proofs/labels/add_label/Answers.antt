@@ -21,7 +21,7 @@ put_label-requires c = omega (arith, c.requires.0.stands.counted, c.requires.0.s
 pub returns-then-room-count : goal.returns-then-room-count
 returns-then-room-count c =
     let a = c.args in
-    λ ls h. label-full a.text.now a.room a.count (label_store a.labels.now a.index.now) _ _ c.requires.2.0
+    λ ls h. label-full a.text.now a.room a.count (label_store a.labels.now a.index.now) (label_store a.labels.now a.index.now) _ c.requires.2.0
     (label_fits a.text.now a.name a.place a.line c.requires.3 c.requires.1 c.requires.2.1) refl ls h
     (rw (c.in-Nothing.is, c.span_bytes-bytes.ensures) at c.find_in.ensures.0) c.if-room-count.true
 

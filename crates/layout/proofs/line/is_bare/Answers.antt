@@ -7,7 +7,7 @@ use Rattle.layout.proofs.LineLaws.{elsewhere_bare, no_string_bare, string_bare}
 use Rattle.layout.proofs.line.is_bare.Goals as goal
 
 pub returns-in_default : goal.returns-in_default
-returns-in_default c = elsewhere_bare c.args.section _ c.in_default.in_default-own.keys2
+returns-in_default c = elsewhere_bare c.args.section _ c.in_default.not-Data
 
 pub returns-then-not-begins_string : goal.returns-then-not-begins_string
 returns-then-not-begins_string c = rw c.in-Data.is (no_string_bare _ (sym c.begins_string.ensures ∙ not-true c.begins_string.result c.if-not-begins_string.true-raw))

@@ -7,7 +7,7 @@ use borrow.Author.Rules.{rules}
 use Rattle.layout.proofs.line.stored.Goals as goal
 
 pub returns-in_default : goal.returns-in_default
-returns-in_default c = let a = c.args in stored_other a.text.now a.cut a.part a.rest a.what c.in_default.in_default-own.keys2
+returns-in_default c = let a = c.args in stored_other a.text.now a.cut a.part a.rest a.what c.in_default.not-Text
 
 pub slice_bounds-before-end : goal.slice_bounds-before-end
 slice_bounds-before-end c =

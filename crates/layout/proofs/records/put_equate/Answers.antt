@@ -11,6 +11,7 @@ use Rattle.layout.specs.Bytes.{little_endian}
 use Rattle.layout.specs.Limits.{equate_size}
 use Rattle.layout.specs.Records.{four, eight, field_bytes}
 use Rattle.layout.proofs.TableLaws.{put_first, put-field}
+use borrow.Author.Rules.{rules}
 use Rattle.layout.proofs.records.put_equate.Goals as goal
 
 pub returns : goal.returns
@@ -20,7 +21,7 @@ returns c =
     let r = a.r in
     let at = a.k * equate_size in
     let b = a.equates.now in
-    let fit : SFits w64 r.value = record { sfits = c.type_inv.r.1.1.1.0.1 } in
+    let fit : SFits w64 r.value = search rules in
     put-field at (at + 20) (four r.round) (four r.start ∷ four r.len ∷ four r.line ∷ eight (bits 64 r.value) ∷ []) b _ _ refl
     (omega (arith, c.requires))
     (put-field at (at + 12) (eight (bits 64 r.value)) (four r.start ∷ four r.len ∷ four r.line ∷ []) b _ _ refl (omega (arith, c.requires))

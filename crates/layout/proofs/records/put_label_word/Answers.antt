@@ -15,7 +15,7 @@ returns c =
     let a = c.args in
     let r = a.r in
     let at = a.k * label_word_size in
-    let b = a.label-words.now in
+    let b = a.label_words.now in
     put-field at (at + 12) (four r.line) (four r.at ∷ four r.start ∷ four r.len ∷ []) b _ _ refl (omega (arith, c.requires))
     (put-field at (at + 8) (four r.len) (four r.at ∷ four r.start ∷ []) b _ _ refl (omega (arith, c.requires))
     (put-field at (at + 4) (four r.start) (four r.at ∷ []) b _ _ refl (omega (arith, c.requires))

@@ -36,7 +36,7 @@ returns-in-Through c =
     λ s.
     let a = symbols_starts s _ c.of-starts.ensures in
     let p = c.place_labels.ensures (unplaced s _ a) in
-    symbols_go args.text.now args.base s.state args.st c.place_labels.new.0 args.label_index.now c.resolve.new.1.1.1.1.1.0 c.index_equates.new.1.1.1.0 c.fill_label_words.new.1.1.1.1.1.1.0 _ (total_of c.resolve.result) p
+    symbols_go args.text.now args.base s.state args.st c.place_labels.new.labels args.label_index.now c.resolve.new.equates c.index_equates.new.index c.fill_label_words.new.data_bytes _ (total_of c.resolve.result) p
     (rw c.in-Through.is at (c.fill_label_words.ensures (unfilled s _ p)))
     (c.resolve.ensures (record { base = _; state = s.state; stands = rounds_stand s _ a _ p _ c.index_equates.ensures }))
 
@@ -46,5 +46,5 @@ returns-in-Refused c =
     λ s.
     let a = symbols_starts s _ c.of-starts.ensures in
     let p = c.place_labels.ensures (unplaced s _ a) in
-    fill_stop args.text.now args.base s.state args.st c.place_labels.new.0 args.label_index.now args.equates.now args.equate_index.now c.fill_label_words.new.1.1.1.1.1.1.0 _
+    fill_stop args.text.now args.base s.state args.st c.place_labels.new.labels args.label_index.now args.equates.now args.equate_index.now c.fill_label_words.new.data_bytes _
     (rw c.in-Refused.is at (c.fill_label_words.ensures (unfilled s _ p)))
