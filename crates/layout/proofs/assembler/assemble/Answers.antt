@@ -14,18 +14,18 @@ pub returns-in-Through : goal.returns-in-Through
 returns-in-Through c =
     let a = c.args in
     let b₀ = (buffers a.words.now a.data_bytes.now a.labels.now a.equates.now a.items.now) in
-    let b₁ = (buffers c.clear.new.0 c.clear.new.1.0 c.clear.new.1.1.0 c.clear.new.1.1.1.0 c.clear.new.1.1.1.1.0) in
-    let b = (buffers c.lay_out.new.1.1.0 c.lay_out.new.1.1.1.0 c.lay_out.new.1.1.1.1.0 c.lay_out.new.1.1.1.1.1.0 c.lay_out.new.1.1.1.1.1.1.0) in
-    call_through a.text.now a.base b₀ b₁ b (same-lengths b₀ b₁ c.clear.auto.0 c.clear.auto.1.0 c.clear.auto.1.1.0 c.clear.auto.1.1.1.0 c.clear.auto.1.1.1.1.0)
-    (same-lengths b₁ b c.lay_out.auto.1.1.0 c.lay_out.auto.1.1.1.0 c.lay_out.auto.1.1.1.1.0 c.lay_out.auto.1.1.1.1.1.0 c.lay_out.auto.1.1.1.1.1.1.0) _ (rw c.in-Through.is at c.lay_out.ensures)
+    let b₁ = (buffers c.clear.new.words c.clear.new.data_bytes c.clear.new.labels c.clear.new.equates c.clear.new.items) in
+    let b = (buffers c.lay_out.new.words c.lay_out.new.data_bytes c.lay_out.new.labels c.lay_out.new.equates c.lay_out.new.items) in
+    call_through a.text.now a.base b₀ b₁ b (same-lengths b₀ b₁ c.clear.auto.words c.clear.auto.data_bytes c.clear.auto.labels c.clear.auto.equates c.clear.auto.items)
+    (same-lengths b₁ b c.lay_out.auto.words c.lay_out.auto.data_bytes c.lay_out.auto.labels c.lay_out.auto.equates c.lay_out.auto.items) _ (rw c.in-Through.is at c.lay_out.ensures)
 
 pub returns-in-Refused : goal.returns-in-Refused
 returns-in-Refused c =
     let a = c.args in
     let b₀ = (buffers a.words.now a.data_bytes.now a.labels.now a.equates.now a.items.now) in
-    let b₁ = (buffers c.clear.new.0 c.clear.new.1.0 c.clear.new.1.1.0 c.clear.new.1.1.1.0 c.clear.new.1.1.1.1.0) in
-    let b = (buffers c.lay_out.new.1.1.0 c.lay_out.new.1.1.1.0 c.lay_out.new.1.1.1.1.0 c.lay_out.new.1.1.1.1.1.0 c.lay_out.new.1.1.1.1.1.1.0) in
-    let b' = (buffers c.refuse.new.1.1.0 c.refuse.new.1.1.1.0 c.refuse.new.1.1.1.1.0 c.refuse.new.1.1.1.1.1.0 c.refuse.new.1.1.1.1.1.1.0) in
-    call-refused a.text.now a.base b₀ b₁ b (same-lengths b₀ b₁ c.clear.auto.0 c.clear.auto.1.0 c.clear.auto.1.1.0 c.clear.auto.1.1.1.0 c.clear.auto.1.1.1.1.0)
-    (same-lengths b₁ b c.lay_out.auto.1.1.0 c.lay_out.auto.1.1.1.0 c.lay_out.auto.1.1.1.1.0 c.lay_out.auto.1.1.1.1.1.0 c.lay_out.auto.1.1.1.1.1.1.0) _ _ (rw c.in-Refused.is at c.lay_out.ensures) b'
+    let b₁ = (buffers c.clear.new.words c.clear.new.data_bytes c.clear.new.labels c.clear.new.equates c.clear.new.items) in
+    let b = (buffers c.lay_out.new.words c.lay_out.new.data_bytes c.lay_out.new.labels c.lay_out.new.equates c.lay_out.new.items) in
+    let b' = (buffers c.refuse.new.words c.refuse.new.data_bytes c.refuse.new.labels c.refuse.new.equates c.refuse.new.items) in
+    call-refused a.text.now a.base b₀ b₁ b (same-lengths b₀ b₁ c.clear.auto.words c.clear.auto.data_bytes c.clear.auto.labels c.clear.auto.equates c.clear.auto.items)
+    (same-lengths b₁ b c.lay_out.auto.words c.lay_out.auto.data_bytes c.lay_out.auto.labels c.lay_out.auto.equates c.lay_out.auto.items) _ _ (rw c.in-Refused.is at c.lay_out.ensures) b'
     (zeroed b b' c.refuse.ensures.1 c.refuse.ensures.2 c.refuse.ensures.3 c.refuse.ensures.4 c.refuse.ensures.5) _ c.refuse.ensures.0

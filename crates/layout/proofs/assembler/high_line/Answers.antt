@@ -19,7 +19,7 @@ loop-i-preserved c =
     let taken = c.loop-i-test.true in
     let low = c.if-text-i-gt127.false in
     elim c.if-text-i-eq10.branch [
-      then-text-i-eq10 w ↦ (omega (arith, w.line-is, c.loop-i.invariant.0), rw w.line-is (line_next _ _ _ taken c.loop-i.invariant.1 low w.if-text-i-eq10.true))
+      | then-text-i-eq10 w ↦ (omega (arith, w.line-is, c.loop-i.invariant.0), rw w.line-is (line_next _ _ _ taken c.loop-i.invariant.1 low w.if-text-i-eq10.true))
       | else-text-i-eq10 w ↦ (omega (arith, w.line-is, c.loop-i.invariant.0), rw w.line-is (line_same _ _ _ taken c.loop-i.invariant.1 low w.if-text-i-eq10.false))
     ]
 

@@ -58,7 +58,7 @@ loop-entry-preserved c =
     let read : (b : Bool) → c.is_found.result ≡ b → is_found (known_at ks (c.loop-entry.entry - 1)) c.args.name.now ≡ b =
     λ b e. found_as_read t c.args.name.now (c.loop-entry.entry - 1) (omega (arith, (c.loop-entry.invariant ks t).le, c.loop-entry-test.true)) b (sym c.is_found.ensures ∙ e) in
     elim c.if-is_found.branch [
-      then-is_found w ↦ rw w.found-is (seek_hit t _ _ _ c.loop-entry-test.true (c.loop-entry.invariant ks t) (read true w.if-is_found.true))
+      | then-is_found w ↦ rw w.found-is (seek_hit t _ _ _ c.loop-entry-test.true (c.loop-entry.invariant ks t) (read true w.if-is_found.true))
       | else-is_found w ↦ rw w.found-is (seek_miss t _ _ _ c.loop-entry-test.true (c.loop-entry.invariant ks t) (read false w.if-is_found.false))
     ]
 

@@ -1,6 +1,5 @@
 -- `stage::line_stage`: what the lines that are left come to from here is what all of them come to.
 use mathlib.Core.Path.{refl, ap, ◌∙◌}
-use mathlib.Core.Logic.{⊎_elim}
 use native.Mathlib.Omega.{arith}
 use lib.ListN.{length}
 use Rattle.numbers.specs.Code.Tables.{row_of, row_name, slot_of, prefix_slot, slot_rows, joined, rows_from, starts_from, table_of, all}
@@ -12,6 +11,7 @@ use Rattle.layout.specs.Code.Stands.{store, step_of}
 use Rattle.layout.proofs.CutLaws.{cut_order, cut_end}
 use Rattle.layout.proofs.TurnLaws.{head_same, head_first, turn_go, turn-stop, turn_blank, turns_end}
 use Rattle.layout.proofs.stage.line_stage.Goals as goal
+use Rattle.layout.proofs.stage.line_stage.Goals.{then-cut-gt0+in-Now, else-cut-gt0}
 
 pub loop-at-init : goal.loop-at-init
 unfolding spellings table.directives row_of row_name slot_of prefix_slot slot_rows joined rows_from starts_from table_of all
@@ -50,35 +50,34 @@ loop-at-preserved c =
     let e = c.cut_line-cut.ensures in
     let below = c.loop-at-test.true in
     let v = c.loop-at.invariant in
-    ⊎_elim
-    (λ w.
-    let k = w.10.kept in (
-      head_same _ _ _ _ _ _ _ _ (λ i. store (w.28 i) (w.29 i) (w.30 i) (w.31 i) (w.32 i) (w.33 i) (w.34 i)) w.35
-          (turn_go _ _ _ _ _ _ v.0 _ below e.0 e.1 _ _ w.10.ensures _ (ap step_of w.26.given.1)),
-      ap length w.28 ∙ k.1.1.1.1.0 ∙ v.1,
-      ap length w.29 ∙ k.1.1.1.1.1.0 ∙ v.2,
-      ap length w.30 ∙ k.1.1.1.1.1.1.0 ∙ v.3,
-      ap length w.31 ∙ k.1.1.1.1.1.1.1.0 ∙ v.4,
-      ap length w.32 ∙ k.1.1.1.1.1.1.1.1.0 ∙ v.5,
-      ap length w.33 ∙ k.1.1.1.1.1.1.1.1.1.0 ∙ v.6,
-      ap length w.34 ∙ k.1.1.1.1.1.1.1.1.1.1.0 ∙ v.7,
-      v.8,
-      v.9,
-    ))
-    (λ w. (
-      head_same _ _ _ _ _ _ _ _ (λ i. store (w.1 i) (w.2 i) (w.3 i) (w.4 i) (w.5 i) (w.6 i) (w.7 i)) w.8
-          (turn_blank _ _ _ _ _ _ v.0 _ below e.0 e.1 w.0.left),
-      ap length w.1 ∙ v.1,
-      ap length w.2 ∙ v.2,
-      ap length w.3 ∙ v.3,
-      ap length w.4 ∙ v.4,
-      ap length w.5 ∙ v.5,
-      ap length w.6 ∙ v.6,
-      ap length w.7 ∙ v.7,
-      v.8,
-      v.9,
-    ))
-    c.if-cut-gt0.branch
+    elim c.if-cut-gt0.branch [
+      | then-cut-gt0+in-Now w ↦ (
+        head_same _ _ _ _ _ _ _ _ (λ i. store (w.labels-is i) (w.index-is i) (w.equates-is i) (w.exprs-is i) (w.items-is i) (w.data_bytes-is i) (w.label_words-is i)) w.st-is
+            (turn_go _ _ _ _ _ _ v.0 _ below e.0 e.1 _ _ w.step_line.ensures _ (ap step_of w.in-Now.is)),
+        ap length w.labels-is ∙ w.step_line.auto.labels ∙ v.1,
+        ap length w.index-is ∙ w.step_line.auto.index ∙ v.2,
+        ap length w.equates-is ∙ w.step_line.auto.equates ∙ v.3,
+        ap length w.exprs-is ∙ w.step_line.auto.exprs ∙ v.4,
+        ap length w.items-is ∙ w.step_line.auto.items ∙ v.5,
+        ap length w.data_bytes-is ∙ w.step_line.auto.data_bytes ∙ v.6,
+        ap length w.label_words-is ∙ w.step_line.auto.label_words ∙ v.7,
+        v.8,
+        v.9,
+      )
+      | else-cut-gt0 w ↦ (
+        head_same _ _ _ _ _ _ _ _ (λ i. store (w.labels-is i) (w.index-is i) (w.equates-is i) (w.exprs-is i) (w.items-is i) (w.data_bytes-is i) (w.label_words-is i)) w.st-is
+            (turn_blank _ _ _ _ _ _ v.0 _ below e.0 e.1 w.if-cut-gt0.false),
+        ap length w.labels-is ∙ v.1,
+        ap length w.index-is ∙ v.2,
+        ap length w.equates-is ∙ v.3,
+        ap length w.exprs-is ∙ v.4,
+        ap length w.items-is ∙ v.5,
+        ap length w.data_bytes-is ∙ v.6,
+        ap length w.label_words-is ∙ v.7,
+        v.8,
+        v.9,
+      )
+    ]
 
 pub returns : goal.returns
 returns c = rw (turns_end _ _ _ _ _ _ c.loop-at.invariant.0 c.loop-at-test.false) c.loop-at.invariant.0.stands

@@ -1,6 +1,6 @@
 -- `stage::step_line`: the label's step, then what the line says.
 use mathlib.Core.Path.{ap}
-use Rattle.layout.specs.Code.Stands.{count_of, rest_of}
+use Rattle.layout.specs.Code.Stands.{count_of, rest_of, store}
 use Rattle.layout.proofs.CutLaws.{cut_order, cut_end}
 use Rattle.layout.proofs.StageLaws.{words_within, place_fits, line_label-within, line_says-within, label_stopped, rest_stopped, line_goes}
 use Rattle.layout.proofs.stage.step_line.Goals as goal
@@ -47,5 +47,7 @@ returns-in-Stop-statement_step c =
 
 pub returns-in-Stop : goal.returns-in-Stop
 returns-in-Stop c =
-    label_stopped _ _ _ _ _ _ _ _ (cut_order _ _ c.requires.2) (cut_end _ _ c.requires.2) _ c.line_of-parsed.ensures _ c.place.ensures _
+    let a = c.args in
+    let after = store c.label_step.new.labels c.label_step.new.index a.equates.now a.exprs.now a.items.now a.data_bytes.now a.label_words.now in
+    label_stopped _ _ _ _ after _ _ _ (cut_order _ _ c.requires.2) (cut_end _ _ c.requires.2) _ c.line_of-parsed.ensures _ c.place.ensures _
     c.label_step.ensures _ (ap count_of c.in-Stop.is)
