@@ -17,7 +17,7 @@ put_label-requires c = record_within c.loop-k.invariant c.loop-k-test.true c.req
 pub loop-k-preserved : goal.loop-k-preserved
 loop-k-preserved c =
     placing_next c.loop-k.invariant c.loop-k-test.true c.get_label-label.result c.get_label-label.ensures
-    c.address.result c.address.ensures _ c.put_label.auto.0 c.put_label.ensures
+    c.address.result c.address.ensures _ c.put_label.auto.labels c.put_label.ensures
 
 pub returns : goal.returns
 returns c = placing_end c.loop-k.invariant c.loop-k-test.false

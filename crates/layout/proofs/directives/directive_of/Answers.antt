@@ -3,7 +3,6 @@ use Prim.Native.Nat.{ℕ, ◌+◌, ◌≤◌}
 use mathlib.Core.Path.{◌≡◌, refl, sym, ◌∙◌}
 use mathlib.Core.List.{map}
 use native.Mathlib.Omega.{arith}
-use borrow.Author.Tests.{not-true}
 use mir.Syntax.{w64}
 use mir.Val.{Fits}
 use lib.ListN.{length}
@@ -15,10 +14,10 @@ use Rattle.layout.specs.Code.Rows.{directive_row}
 use Rattle.layout.proofs.DirectiveLaws.{directives_small, row_past, row_room, directive_few, row_here, length_fits, no_row}
 use borrow.Author.Rules.{rules}
 use Rattle.layout.proofs.directives.directive_of.Goals as goal
-use Rattle.layout.proofs.directives.directive_of.Goals.{After-prefix_in, In-At-1}
+use Rattle.layout.proofs.directives.directive_of.Goals.{After-prefix_in}
 
 pub returns-then-not-first_is : goal.returns-then-not-first_is
-returns-then-not-first_is c = rw (no_row c.args.s.now (sym c.first_is.ensures ∙ not-true _ c.if-not-first_is.true-raw)) (refl, tt)
+returns-then-not-first_is c = rw (no_row c.args.s.now (sym c.first_is.ensures ∙ c.if-not-first_is.true)) (refl, tt)
 
 pub prefix_in-requires : goal.prefix_in-requires
 prefix_in-requires c = record { rs = map directive_row directives; table = c.requires }
@@ -40,34 +39,34 @@ pub overflow_add-at : goal.overflow_add-at
 overflow_add-at c = omega (arith, room (goal.at.overflow_add-at c).After-prefix_in _ c.in-At.is)
 
 pub bounds-names-at : goal.bounds-names-at
-bounds-names-at c = omega (arith, room (goal.at.bounds-names-at c).In-At-1 _ c.in-At.is)
+bounds-names-at c = omega (arith, room (goal.at.bounds-names-at c).After-prefix_in _ c.in-At.is)
 
 pub directive_numbered-requires : goal.directive_numbered-requires
 directive_numbered-requires c =
     let a = c.args in
-    directive_few directives a.names.now a.s.now directives_small c.prefix_in.result (found (goal.at.directive_numbered-requires c).In-At-1) _ c.in-At.is
+    directive_few directives a.names.now a.s.now directives_small c.prefix_in.result (found (goal.at.directive_numbered-requires c).After-prefix_in) _ c.in-At.is
 
 pub overflow_add-result : goal.overflow_add-result
-overflow_add-result c = omega (arith, room (goal.at.overflow_add-result c).In-At-1 _ c.in-At.is)
+overflow_add-result c = omega (arith, room (goal.at.overflow_add-result c).After-prefix_in _ c.in-At.is)
 
 pub bounds-names-at-2 : goal.bounds-names-at-2
-bounds-names-at-2 c = omega (arith, room (goal.at.bounds-names-at-2 c).In-At-1 _ c.in-At.is)
+bounds-names-at-2 c = omega (arith, room (goal.at.bounds-names-at-2 c).After-prefix_in _ c.in-At.is)
 
 pub overflow_cast-result : goal.overflow_cast-result
 overflow_cast-result c =
     let a = c.args in
     let f : Fits w64 (length a.s.now) = search rules in
-    length_fits directives a.names.now a.s.now directives_small c.prefix_in.result (found (goal.at.overflow_cast-result c).In-At-1) _ c.in-At.is
+    length_fits directives a.names.now a.s.now directives_small c.prefix_in.result (found (goal.at.overflow_cast-result c).After-prefix_in) _ c.in-At.is
     c.directive_numbered.result c.directive_numbered.ensures f
 
 pub overflow_add-result-2 : goal.overflow_add-result-2
-overflow_add-result-2 c = omega (arith, room (goal.at.overflow_add-result-2 c).In-At-1 _ c.in-At.is)
+overflow_add-result-2 c = omega (arith, room (goal.at.overflow_add-result-2 c).After-prefix_in _ c.in-At.is)
 
 pub bounds-names-at-3 : goal.bounds-names-at-3
-bounds-names-at-3 c = omega (arith, room (goal.at.bounds-names-at-3 c).In-At-1 _ c.in-At.is)
+bounds-names-at-3 c = omega (arith, room (goal.at.bounds-names-at-3 c).After-prefix_in _ c.in-At.is)
 
 pub returns : goal.returns
 returns c =
     let a = c.args in
-    row_here directives a.names.now a.s.now directives_small c.prefix_in.result (found (goal.at.returns c).In-At-1) _ c.in-At.is
+    row_here directives a.names.now a.s.now directives_small c.prefix_in.result (found (goal.at.returns c).After-prefix_in) _ c.in-At.is
     _ c.directive_numbered.ensures

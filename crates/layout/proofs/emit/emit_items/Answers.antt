@@ -52,11 +52,11 @@ loop-k-preserved c =
       within = omega (arith, more);
       items_sized = search rules;
       words_sized = search rules;
-      emitting = λ u. emit_goes u inv more c.get_item-item.result c.get_item-item.ensures _ _ _ (rw c.in-Now.is at c.emit_item.ensures) refl _ c.address.ensures _ c.put_item.auto.0 c.put_item.ensures;
+      emitting = λ u. emit_goes u inv more c.get_item-item.result c.get_item-item.ensures _ _ _ (rw c.in-Now.is at c.emit_item.ensures) refl _ c.address.ensures _ c.put_item.auto.items c.put_item.ensures;
     }
 
 pub returns-in-Stop : goal.returns-in-Stop
-returns-in-Stop c = λ u. emit_stops u c.loop-k.invariant c.loop-k-test.true c.get_item-item.result c.get_item-item.ensures _ _ _ (rw c.in-Stop.is at c.emit_item.ensures) _ _
+returns-in-Stop c = λ u. emit_stops u c.loop-k.invariant c.loop-k-test.true c.get_item-item.result c.get_item-item.ensures c.loop-k.words c.loop-k.words _ (rw c.in-Stop.is at c.emit_item.ensures) c.loop-k.items c.loop-k.words
 
 pub returns : goal.returns
 returns c = λ u. emit_ends u c.loop-k.invariant c.loop-k-test.false

@@ -15,29 +15,26 @@ use Rattle.layout.specs.Code.Names.{Scope, NamesStand}
 use Rattle.layout.specs.Code.Expands.{looked_up_as, looked_up_in, emission_in}
 use Rattle.layout.proofs.EmitLaws.{emits_refused, emits_built, built_room}
 use Rattle.layout.proofs.emit.emit_pseudo.Goals as goal
-use Rattle.layout.proofs.emit.emit_pseudo.Goals.{After-look_up, Start}
+use Rattle.layout.proofs.emit.emit_pseudo.Goals.{After-look_up}
 
 -- what the operands come to, by whatever names are lent
 module _ (l : After-look_up) where
-  abbrev start : Start
-  start = l.Start
-
   abbrev Stand : Scope → Type 0
   Stand names =
-      NamesStand start.args.text.now start.args.labels.now start.args.label_index.now start.args.label_count
-      start.args.equates.now start.args.equate_index.now start.args.equate_count names
+      NamesStand l.args.text.now l.args.labels.now l.args.label_index.now l.args.label_count
+      l.args.equates.now l.args.equate_index.now l.args.equate_count names
 
-  come : (names : Scope) → Stand names → looked_up_as l.look_up.result ≡ and_then (wanted start.args.pseudo (pseudo_operands start.args.s.now)) (looked_up_in names)
-  come names stand = rw l.before.wanted_by.ensures at (l.look_up.ensures names stand)
+  come : (names : Scope) → Stand names → looked_up_as l.look_up.result ≡ and_then (wanted l.args.pseudo (pseudo_operands l.args.s.now)) (looked_up_in names)
+  come names stand = rw l.wanted_by.ensures at (l.look_up.ensures names stand)
 
   module _ (a : Arguments) (e : looked_up_as l.look_up.result ≡ value a) where
-    emits : (names : Scope) → Stand names → encoded (instructions start.args.pseudo a) ≡ emission_in names (some start.args.pseudo) start.args.s.now
+    emits : (names : Scope) → Stand names → encoded (instructions l.args.pseudo a) ≡ emission_in names (some l.args.pseudo) l.args.s.now
     emits names stand = emits_built (constant names.known) (label_address names.base names.state) _ _ a (sym e ∙ come names stand)
 
-    room : (x : Expansion) → instructions_in x ≡ instructions start.args.pseudo a → (x.count ≤ longest) × (x.count ≤ length start.args.dst.now)
+    room : (x : Expansion) → instructions_in x ≡ instructions l.args.pseudo a → (x.count ≤ longest) × (x.count ≤ length l.args.dst.now)
     room x g =
-        let names = start.pre.0.it in
-        built_room (constant names.known) (label_address names.base names.state) _ _ a (sym e ∙ come names start.pre.0.stands) x _ g start.pre.1
+        let names = l.requires.0.it in
+        built_room (constant names.known) (label_address names.base names.state) _ _ a (sym e ∙ come names l.requires.0.stands) x _ g l.requires.1
 
 pub put_expansion-requires : goal.put_expansion-requires
 put_expansion-requires c = room (goal.at.put_expansion-requires c).After-look_up _ (ap looked_up_as c.in-As.is) c.build.result c.build.ensures

@@ -19,7 +19,7 @@ pub loop-k-preserved : goal.loop-k-preserved
 loop-k-preserved c =
     let a = c.args in (
       omega (arith, c.loop-k-test.true),
-      c.insert.auto.0 ∙ c.loop-k.invariant.1,
+      c.insert.auto.index ∙ c.loop-k.invariant.1,
       rw c.insert.ensures (index_more a.text.now a.equates.now c.loop-k.index c.loop-k.k c.bucket_of.result
           (c.bucket_of.ensures ∙ ap bucket_of c.equate_name.ensures) c.loop-k.invariant.2
           (omega (arith, c.loop-k.invariant.1, c.requires.2, c.loop-k-test.true))),

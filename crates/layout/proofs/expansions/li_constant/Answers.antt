@@ -34,8 +34,8 @@ module _ (c : After-in_signed32) where
   read : to_z w64 (of_z w64 v) ≡ v
   read = to_z-of_z (let f : SFits w64 v = search rules in f)
 
-  tested : (b : Bool) → c.in-signed32.result ≡ b → is_signed32 v ≡ b
-  tested b e = rw read at (sym c.in-signed32.ensures ∙ e)
+  tested : (b : Bool) → c.in_signed32.result ≡ b → is_signed32 v ≡ b
+  tested b e = rw read at (sym c.in_signed32.ensures ∙ e)
 
 pub overflow_cast-result : goal.overflow_cast-result
 overflow_cast-result c = rw (read (goal.at.overflow_cast-result c).After-in_signed32) (signed32_fits (v (goal.at.overflow_cast-result c).After-in_signed32) (tested (goal.at.overflow_cast-result c).After-in_signed32 true c.if-in_signed32.true))

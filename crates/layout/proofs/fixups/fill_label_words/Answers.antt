@@ -28,7 +28,7 @@ pub loop-k-preserved : goal.loop-k-preserved
 loop-k-preserved c =
     fixing_goes c.loop-k.invariant c.loop-k-test.true c.get_label_word-word.result c.get_label_word-word.ensures
     _ c.span_bytes.ensures c.in-At.address (rw c.in-At.is at c.label_address.ensures)
-    _ c.put_u32.auto.0 c.put_u32.ensures
+    _ c.put_u32.auto.buf c.put_u32.ensures
 
 pub returns : goal.returns
 returns c = fixing_ends c.loop-k.invariant c.loop-k-test.false

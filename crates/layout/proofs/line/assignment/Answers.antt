@@ -1,10 +1,10 @@
 -- `line::assignment`: the definition makes the code's tests, and a side is empty where its span is.
-use Prim.Native.Nat.{◌+◌, ◌≤◌}
+use Prim.Native.Nat.{ℕ, ◌+◌, ◌-◌, ◌≤◌}
 use mathlib.Core.Path.{◌≡◌, ap, sym, ◌∙◌}
 use mathlib.Core.Bool.{false}
 use native.Mathlib.Nat.{le_of_eq}
 use native.Mathlib.Omega.{arith}
-use lib.ListN.{length}
+use lib.ListN.{length, take, drop}
 use Rattle.numbers.specs.Text.{text, byte, starts_with, index_of}
 use Rattle.numbers.specs.Code.Spans.{spanned}
 use Rattle.layout.specs.Code.Spans.{span_of, piece_at, statement_code}
@@ -14,7 +14,7 @@ use Rattle.layout.proofs.SpanLaws.{whole_part}
 use Rattle.layout.proofs.StatementLaws.{dot-other, unsigned-other, bare_other, signed-equate}
 use borrow.Author.Rules.{rules}
 use Rattle.layout.proofs.line.assignment.Goals as goal
-use Rattle.layout.proofs.line.assignment.Goals.{After-find, After-part_to-whole, Else-first_is}
+use Rattle.layout.proofs.line.assignment.Goals.{After-part_to-whole, Else-first_is}
 
 whole : (d : After-part_to-whole) → d.part_to-whole.result ≡ span_of (piece_at d.args.text.now d.args.part)
 whole d = whole_part _ _ _ _ d.span_bytes-bytes.ensures d.part_to-whole.ensures
@@ -44,22 +44,25 @@ slice_bounds-find-start c = omega (arith, bounded c, index_within (byte "=") c.s
 
 pub overflow_add-sign : goal.overflow_add-sign
 overflow_add-sign c =
-    let h = find_within (byte "=") c.span_bytes-bytes.result.now _ c.find.result (sub-find (goal.at.overflow_add-sign c).Else-first_is) c.find.ensures in
+    let s = c.span_bytes-bytes.result.now in
+    let below : c.args.from ≤ length s = omega (arith, bounded (goal.at.overflow_add-sign c).Else-first_is, index_within (byte "=") s) in
+    let h = find_within (byte "=") s _ c.find.result below c.find.ensures in
     search rules
 
--- so the one that is found is the first
-sign : (d : After-find) → let a = d.args in
-    a.from + d.find.result ≡ index_of (byte "=") (spanned a.text.now a.part)
-sign d =
-    rw (← d.span_bytes-bytes.ensures, d.find.ensures, tail)
-    (index_from _ _ _ (bounded d.Else-first_is))
+-- so the one that is found from there is the first
+sign : (d : Else-first_is) (n : ℕ)
+    → n ≡ index_of (byte "=") (take (length d.span_bytes-bytes.result.now - d.args.from) (drop d.args.from d.span_bytes-bytes.result.now))
+    → d.args.from + n ≡ index_of (byte "=") (spanned d.args.text.now d.args.part)
+sign d n e =
+    rw (← d.span_bytes-bytes.ensures, e, tail)
+    (index_from _ _ _ (bounded d))
 
 pub returns-then-bytes-sign : goal.returns-then-bytes-sign
 returns-then-bytes-sign c =
     let a = c.args in
     let s = c.span_bytes-bytes.ensures in
     let p = piece_at a.text.now a.part in
-    let other = unsigned-other a.section p (a.from + c.find.result) (sign (goal.at.returns-then-bytes-sign c).After-find) (plain (goal.at.returns-then-bytes-sign c).Else-first_is) (rw s at c.if-bytes-sign.true) in
+    let other = unsigned-other a.section p (a.from + c.find.result) (sign (goal.at.returns-then-bytes-sign c).Else-first_is _ c.find.ensures) (plain (goal.at.returns-then-bytes-sign c).Else-first_is) (rw s at c.if-bytes-sign.true) in
     c.other_in-then-bytes-sign.ensures p (whole (goal.at.returns-then-bytes-sign c).After-part_to-whole) ∙ ap statement_code (sym other)
 
 pub trim_to-name-requires : goal.trim_to-name-requires
@@ -74,7 +77,7 @@ returns-then-name-expr c =
     let s = c.span_bytes-bytes.ensures in
     let p = piece_at a.text.now a.part in
     let sides = rw (c.trim_to-name.ensures, c.trim_from-expr.ensures) at c.if-name-expr.true in
-    let other = bare_other a.section p (a.from + c.find.result) (sign (goal.at.returns-then-name-expr c).After-find) (plain (goal.at.returns-then-name-expr c).Else-first_is) (rw s at c.if-bytes-sign.false) sides in
+    let other = bare_other a.section p (a.from + c.find.result) (sign (goal.at.returns-then-name-expr c).Else-first_is _ c.find.ensures) (plain (goal.at.returns-then-name-expr c).Else-first_is) (rw s at c.if-bytes-sign.false) sides in
     c.other_in-then-name-expr.ensures p (whole (goal.at.returns-then-name-expr c).After-part_to-whole) ∙ ap statement_code (sym other)
 
 pub returns : goal.returns
@@ -83,6 +86,6 @@ returns c =
     let s = c.span_bytes-bytes.ensures in
     let p = piece_at a.text.now a.part in
     let sides = rw (c.trim_to-name.ensures, c.trim_from-expr.ensures) at c.if-name-expr.false in
-    let equate = signed-equate a.section p (a.from + c.find.result) (sign (goal.at.returns c).After-find) (plain (goal.at.returns c).Else-first_is) (rw s at c.if-bytes-sign.false) sides in
+    let equate = signed-equate a.section p (a.from + c.find.result) (sign (goal.at.returns c).Else-first_is _ c.find.ensures) (plain (goal.at.returns c).Else-first_is) (rw s at c.if-bytes-sign.false) sides in
     c.equate_of.ensures _ _ c.trim_to-name.ensures
     c.trim_from-expr.ensures ∙ ap statement_code (sym equate)

@@ -39,11 +39,10 @@ returns-in_default-item_operand_at c =
 second : (c : After-is_single) (n : ℕ) → cond c.is_single.result 1 2 ≡ n
     → n ≡ li_words
     (pseudo_operands c.args.s.now)
-second d n h =
-    let c = d.before in
+second c n h =
     after c.args.s.now c.word_len-first.result n c.word_len-first.ensures
     (li_two _ _ _ (sym c.item_operand_at.ensures ∙ c.in-At.is) _ _ (sym c.item_operand_at-2.ensures ∙ c.in-At-item_operand_at.is)
-    ∙ rw (← c.span_bytes.ensures, ← c.parse_imm_one_spaced.ensures, ← d.is-single.ensures) h)
+    ∙ rw (← c.span_bytes.ensures, ← c.parse_imm_one_spaced.ensures, ← c.is_single.ensures) h)
 
 pub returns-then-is_single : goal.returns-then-is_single
 returns-then-is_single c = second (goal.at.returns-then-is_single c).After-is_single 1 (rw c.if-is_single.true refl)

@@ -13,7 +13,7 @@ use Rattle.layout.specs.Pseudos.{spellings}
 use Rattle.layout.specs.Code.Kinds.{spelling_row}
 use Rattle.layout.proofs.PseudoLaws.{spellings_sound, spellings-named, line_room, number_few, line_plain, line_ended, line_other, line_pseudo}
 use Rattle.layout.proofs.pseudo.listed_kind.Goals as goal
-use Rattle.layout.proofs.pseudo.listed_kind.Goals.{After-word_in, In-At-1}
+use Rattle.layout.proofs.pseudo.listed_kind.Goals.{After-word_in}
 
 pub word_in-requires : goal.word_in-requires
 word_in-requires c = (record { rs = map spelling_row spellings; table = c.requires }, rw c.text_before-word.ensures (before-word _))
@@ -39,36 +39,36 @@ pub overflow_add-at : goal.overflow_add-at
 overflow_add-at c = omega (arith, room (goal.at.overflow_add-at c).After-word_in _ c.in-At.is)
 
 pub bounds-names-at : goal.bounds-names-at
-bounds-names-at c = omega (arith, room (goal.at.bounds-names-at c).In-At-1 _ c.in-At.is)
+bounds-names-at c = omega (arith, room (goal.at.bounds-names-at c).After-word_in _ c.in-At.is)
 
 pub returns-then-s-word : goal.returns-then-s-word
 returns-then-s-word c =
     let a = c.args in
     let ends = rw (c.text_before-word.ensures, c.span_bytes-s.ensures) at c.if-s-word.true in
-    line_ended a.source spellings a.names.now (spanned a.text.now a.source) spellings_sound c.word_in.result (found (goal.at.returns-then-s-word c).In-At-1) _ c.in-At.is ends
+    line_ended a.source spellings a.names.now (spanned a.text.now a.source) spellings_sound c.word_in.result (found (goal.at.returns-then-s-word c).After-word_in) _ c.in-At.is ends
 
 pub overflow_add-kind : goal.overflow_add-kind
-overflow_add-kind c = omega (arith, room (goal.at.overflow_add-kind c).In-At-1 _ c.in-At.is)
+overflow_add-kind c = omega (arith, room (goal.at.overflow_add-kind c).After-word_in _ c.in-At.is)
 
 pub bounds-names-at-2 : goal.bounds-names-at-2
-bounds-names-at-2 c = omega (arith, room (goal.at.bounds-names-at-2 c).In-At-1 _ c.in-At.is)
+bounds-names-at-2 c = omega (arith, room (goal.at.bounds-names-at-2 c).After-word_in _ c.in-At.is)
 
 pub returns-then-kind-eq0 : goal.returns-then-kind-eq0
 returns-then-kind-eq0 c =
     let a = c.args in
     let goes_on = rw (c.text_before-word.ensures, c.span_bytes-s.ensures) at c.if-s-word.false in
-    line_other a.source spellings a.names.now (spanned a.text.now a.source) spellings_sound c.word_in.result (found (goal.at.returns-then-kind-eq0 c).In-At-1) _ c.in-At.is goes_on
+    line_other a.source spellings a.names.now (spanned a.text.now a.source) spellings_sound c.word_in.result (found (goal.at.returns-then-kind-eq0 c).After-word_in) _ c.in-At.is goes_on
     spellings-named c.if-kind-eq0.true
 
 pub pseudo_numbered-requires : goal.pseudo_numbered-requires
 pseudo_numbered-requires c =
     let a = c.args in
-    let few = number_few a.source spellings a.names.now (spanned a.text.now a.source) spellings_sound c.word_in.result (found (goal.at.pseudo_numbered-requires c).In-At-1) _ c.in-At.is in
+    let few = number_few a.source spellings a.names.now (spanned a.text.now a.source) spellings_sound c.word_in.result (found (goal.at.pseudo_numbered-requires c).After-word_in) _ c.in-At.is in
     (omega (arith, c.if-kind-eq0.false), few)
 
 pub returns : goal.returns
 returns c =
     let a = c.args in
     let goes_on = rw (c.text_before-word.ensures, c.span_bytes-s.ensures) at c.if-s-word.false in
-    line_pseudo a.source spellings a.names.now (spanned a.text.now a.source) spellings_sound c.word_in.result (found (goal.at.returns c).In-At-1) _ c.in-At.is goes_on
+    line_pseudo a.source spellings a.names.now (spanned a.text.now a.source) spellings_sound c.word_in.result (found (goal.at.returns c).After-word_in) _ c.in-At.is goes_on
     c.if-kind-eq0.false _ c.pseudo_numbered.ensures
