@@ -1,4 +1,6 @@
 -- `assembler::emit_and_order`: the items' words, and the labels in order, make the layout whole.
+use mathlib.Core.List.{[]}
+use Rattle.layout.specs.Code.Calls.{buffers}
 use Rattle.layout.proofs.CallLaws.{starts_ready, order_room, symbols_found, unemitted_stands, emit-stop, emit_go}
 use Rattle.layout.proofs.assembler.emit_and_order.Goals as goal
 
@@ -24,4 +26,4 @@ returns-in-Refused c =
     let of = c.of-starts.ensures in
     λ s.
     let y = symbols_found s.read _ _ _ _ _ s.found in
-    emit-stop s.read y _ of _ _ _ (rw c.in-Refused.is at (c.emit_items.ensures (unemitted_stands s.read y _ of))) _
+    emit-stop s.read y _ of c.emit_items.new.items c.emit_items.new.words _ (rw c.in-Refused.is at (c.emit_items.ensures (unemitted_stands s.read y _ of))) (buffers [] [] [] [] [])

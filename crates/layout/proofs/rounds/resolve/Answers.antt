@@ -95,7 +95,7 @@ loop-k-preserved c = (
   λ base σ bytes places s m.
       let h = walk_here _ _ _ _ _ _ _ _ (c.loop-k.invariant.1 base σ bytes places s m) c.loop-k-test.true in
       elim c.if-is_pending.branch [
-        then-is_pending+in-Value w ↦
+        | then-is_pending+in-Value w ↦
             let p = pending_here _ s _ _ _ _ _ _ _ h (eqb-true _ _ (sym c.is_pending.ensures ∙ w.if-is_pending.true)) in
             let g = w.evaluate-turn.ensures _ (again_here _ s _ _ _ _ _ _ _ h _ w.partial_at.ensures c.loop-k-test.true p) in
             let t = gave_here _ s _ _ _ _ _ _ _ h _ g.gives in
@@ -141,7 +141,7 @@ over : (c : Left-rounds) (base : ℕ) (σ : State)
     c.rounds-test.equates c.rounds-test.partials c.rounds-test.evaluations c.rounds-test.refused c.rounds-test.number c.rounds-test.line
 over c base σ s =
     elim c.rounds-test.branch [
-      else-rounds-test w ↦
+      | else-rounds-test w ↦
           rw (w.equates-is, w.partials-is, w.evaluations-is) (over_done _ _ _ _ _ _ _ _ _ (c.rounds.invariant.1 base σ s) (omega (arith, w.rounds-test.false)) (w.refused-is ∙ c.rounds.invariant.0))
       | then-rounds-test+then-loop-k-test+then-is_pending+in-Refused w ↦
           let h = walk_here _ _ _ _ _ _ _ _ (w.loop-k.invariant.1 _ _ _ _ (standing s) (round_begins _ _ _ _ _ _ (c.rounds.invariant.1 base σ s) w.rounds-test.true)) w.loop-k-test.true in
