@@ -8,8 +8,6 @@ use mathlib.Core.Option.{Option, none, some}
 use lib.Dec.{ltb}
 use lib.ListN.{length, take, drop, replicate, length-append, length-drop, length-replicate, length-map}
 use lib.IntN.{ℤ}
-use types.Run.{OneOf, miss}
-use denote.Enum.Declared.{tag_of}
 use borrow.Author.Tests.{le-leb, lt-leb, lt-ltb, le-ltb, ltb-true, ltb-false}
 use Rattle.numbers.specs.Results.{Result, value, refused, mapped}
 use Rattle.numbers.specs.Ints.{bits}
@@ -42,7 +40,6 @@ use Rattle.layout.specs.Code.Writes.{write_at, WriteFits, written_bytes, TextSiz
 use Rattle.layout.specs.Code.Steps.{Agrees, Steps}
 use Rattle.layout.specs.Code.Stands.{label_word_of, LabelWordsStand, StoredStand, data_store}
 use Rattle.layout.specs.Code.Fits.{StoredFits}
-use Rattle.layout.specs.contracts.data.Write.{the_type}
 use Rattle.layout.proofs.Each.{each_append}
 use Rattle.layout.proofs.Gives.{Gives}
 use Rattle.layout.proofs.Kept.{write-length, data_write_fits}

@@ -5,8 +5,6 @@ use mathlib.Core.List.{List, [], ◌∷◌}
 use mathlib.Core.Bool.{Bool, true, false, cond, true≢false}
 use mathlib.Core.Option.{Option, none, some}
 use native.Mathlib.Omega.{arith}
-use types.Run.{OneOf, miss}
-use denote.Enum.Declared.{tag_of}
 use lib.Dec.{ltb, eqb}
 use lib.ListN.{length, take, drop, length-take, length-drop}
 use lib.Seq.{take-take}
@@ -35,8 +33,6 @@ use Rattle.layout.specs.Statements.{labelled, string_in, parsed, line_of}
 use Rattle.layout.specs.Code.Steps.{Some}
 use Rattle.layout.specs.Code.Spans.{span_of, piece_at, statement_code, line_code}
 use Rattle.layout.specs.Code.Cuts.{cut_line, LineCut, is_string_row, is_bare, label_by, rest_by, Parted, Follows, quote_between, ended_by, to_line_end, says_in}
-use Rattle.layout.specs.contracts.state.Section.{the_type as section-type}
-use Rattle.layout.specs.contracts.directives.Store.{the_type as store-type}
 use Rattle.layout.proofs.CutLaws.{cut_statement, cut_long}
 use Rattle.layout.proofs.Each.{cond_has}
 use Rattle.layout.proofs.StringLaws.{is_quote_first, label_found, Within, within-within, statement_part, after_part, string_elsewhere, unlabelled_stores}

@@ -20,7 +20,6 @@ use Rattle.layout.specs.Addresses.{label_address}
 use Rattle.layout.specs.Rounds.{Known, constant}
 use Rattle.layout.specs.Expansions as expansions
 use Rattle.layout.specs.Layouts.{emission}
-use Rattle.layout.specs.Code.Lent.{OverCall}
 use Rattle.layout.specs.Code.Names.{EquateTable, Scope}
 
 -- ---- operands and names

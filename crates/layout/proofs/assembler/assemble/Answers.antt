@@ -1,5 +1,4 @@
 -- `assembler::assemble`: cleared buffers are laid out; after a refusal they are cleared again.
-use native.Mathlib.Omega.{arith}
 use Rattle.layout.specs.Code.Calls.{buffers}
 use Rattle.layout.proofs.CallLaws.{cleared, same-lengths, zeroed, call_through, call-refused}
 use Rattle.layout.proofs.assembler.assemble.Goals as goal

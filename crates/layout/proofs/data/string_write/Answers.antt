@@ -1,8 +1,5 @@
 -- `data::string_write`: what stands between the quotes, by its own span in the text.
-use mathlib.Core.Path.{◌≡◌, refl, sym}
-use mathlib.Core.Option.{some}
-use Rattle.numbers.specs.Code.Spans.{spanned}
-use Rattle.numbers.specs.Code.Strings.{quoted_at}
+use mathlib.Core.Path.{refl, sym}
 use Rattle.numbers.proofs.QuoteLaws.{quoted_within, quoted_none}
 use Rattle.layout.proofs.ReadingLaws.{string-read}
 use Rattle.layout.proofs.data.string_write.Goals as goal

@@ -1,7 +1,7 @@
 -- `data::unread_operand`: only a `.word` takes a name.
 use Prim.Native.Nat.{ℕ}
 use mathlib.Core.Path.{◌≡◌, refl, sym, ◌∙◌}
-use mathlib.Core.List.{List, [], ◌∷◌}
+use mathlib.Core.List.{List}
 use borrow.Author.Tests.{not-true, not-false}
 use Rattle.numbers.specs.Results.{refused}
 use Rattle.layout.specs.declared.directives.Width.{Width}

@@ -1,5 +1,5 @@
 -- `writers::put_decoded`: the first n bytes are stored, and those from i on come behind them.
-use Prim.Native.Nat.{◌+◌, ◌≤◌, ◌-◌}
+use Prim.Native.Nat.{◌≤◌, ◌-◌}
 use mathlib.Core.Path.{◌≡◌}
 use mathlib.Core.List.{◌++◌}
 use mathlib.Core.Option.{some}

@@ -4,7 +4,6 @@ use mathlib.Core.Path.{◌∙◌, ap}
 use native.Mathlib.Omega.{arith}
 use lib.ListN.{length}
 use borrow.Author.Rules.{rules}
-use Rattle.numbers.specs.Text.{lower_case}
 use Rattle.numbers.proofs.Names.{key_more, key_end, key_all, key_room, key_room_first}
 use Rattle.numbers.proofs.registers.name_key.Goals as goal
 

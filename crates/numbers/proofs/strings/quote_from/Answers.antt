@@ -1,6 +1,5 @@
 -- `strings::quote_from`: the quote found from i on, where a quote, a backslash or the end is, is the one found from the start.
 use Prim.Native.Nat.{◌+◌, ◌≤◌}
-use mathlib.Core.Bool.{false}
 use native.Mathlib.Omega.{arith}
 use lib.ListN.{length}
 use Rattle.numbers.proofs.QuoteLaws.{quote_here, quote_escaped, quote_cut, quote_end, quote_on, mark_within, mark_rests}

@@ -1,5 +1,4 @@
 -- `table::put_lower`: the invariant says that the buffer has as many bytes of the word in lower case as were put.
-use Rattle.numbers.specs.Text.{lower_case}
 use Rattle.numbers.proofs.Rows.{lower_more, lower_all}
 use borrow.Author.Rules.{rules}
 use Rattle.numbers.proofs.table.put_lower.Goals as goal
