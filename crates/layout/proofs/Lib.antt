@@ -69,3 +69,4 @@ pub mod DemandCases
 pub mod DemandPremises
 pub mod DemandRefuted
 pub mod CallRefuted
+pub mod Walks

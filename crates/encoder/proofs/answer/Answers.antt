@@ -4,14 +4,14 @@ use borrow.Author.Tests.{not-true, not-false}
 use Rattle.encoder.proofs.answer.Goals as goal
 
 pub returns-then-not-registers : goal.returns-then-not-registers
-returns-then-not-registers c = rw (not-true c.args.registers c.if-not-registers.true-raw) refl
+returns-then-not-registers c = rw (c.if-not-registers.true) refl
 
 pub returns-then-not-field : goal.returns-then-not-field
 returns-then-not-field c =
     let a = c.args in
-    rw (not-false a.registers c.if-not-registers.false-raw, not-true a.field c.if-not-field.true-raw) refl
+    rw (c.if-not-registers.false, c.if-not-field.true) refl
 
 pub returns : goal.returns
 returns c =
     let a = c.args in
-    rw (not-false a.registers c.if-not-registers.false-raw, not-false a.field c.if-not-field.false-raw) refl
+    rw (c.if-not-registers.false, c.if-not-field.false) refl

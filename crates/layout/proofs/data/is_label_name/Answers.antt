@@ -10,21 +10,21 @@ pub returns-then-s-eq0 : goal.returns-then-s-eq0
 returns-then-s-eq0 c = name_empty c.args.s.now c.if-s-eq0.true
 
 pub returns-then-not-is_label_start : goal.returns-then-not-is_label_start
-returns-then-not-is_label_start c = rw (name-first c.args.s.now c.if-s-eq0.false, ← c.is_label_start.ensures, not-true c.is_label_start.result c.if-not-is_label_start.true-raw) refl
+returns-then-not-is_label_start c = rw (name-first c.args.s.now c.if-s-eq0.false, ← c.is_label_start.ensures, c.if-not-is_label_start.true) refl
 
 pub loop-i-init : goal.loop-i-init
 loop-i-init c =
     let first = name-first c.args.s.now c.if-s-eq0.false in
-    (omega arith, omega arith, sym (rw (first, ← c.is_label_start.ensures, not-false c.is_label_start.result c.if-not-is_label_start.false-raw) refl))
+    (omega arith, omega arith, sym (rw (first, ← c.is_label_start.ensures, c.if-not-is_label_start.false) refl))
 
 pub returns-then-not-is_label_byte : goal.returns-then-not-is_label_byte
 returns-then-not-is_label_byte c =
-    let other = sym c.is_label_byte.ensures ∙ not-true _ c.if-not-is_label_byte.true-raw in
+    let other = sym c.is_label_byte.ensures ∙ c.if-not-is_label_byte.true in
     name-stop c.args.s.now c.loop-i.i (search rules) other ∙ c.loop-i.invariant.2
 
 pub loop-i-preserved : goal.loop-i-preserved
 loop-i-preserved c =
-    let named = sym c.is_label_byte.ensures ∙ not-false _ c.if-not-is_label_byte.false-raw in
+    let named = sym c.is_label_byte.ensures ∙ c.if-not-is_label_byte.false in
     (omega arith, omega arith, name_more c.args.s.now c.loop-i.i (search rules) named ∙ c.loop-i.invariant.2)
 
 pub returns : goal.returns

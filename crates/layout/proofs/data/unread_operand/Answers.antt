@@ -20,10 +20,10 @@ returns-in_default c = (not_word c.args.width _ c.in_default.not-Word, tt)
 
 pub returns-then-not-is_label_name : goal.returns-then-not-is_label_name
 returns-then-not-is_label_name c =
-    let no = rw c.span_bytes.ensures at (sym c.is_label_name.ensures ∙ not-true _ c.if-not-is_label_name.true-raw) in
+    let no = rw c.span_bytes.ensures at (sym c.is_label_name.ensures ∙ c.if-not-is_label_name.true) in
     (rw (c.in-Word.is, no) refl, tt)
 
 pub returns : goal.returns
 returns c =
-    let yes = rw c.span_bytes.ensures at (sym c.is_label_name.ensures ∙ not-false _ c.if-not-is_label_name.false-raw) in
+    let yes = rw c.span_bytes.ensures at (sym c.is_label_name.ensures ∙ c.if-not-is_label_name.false) in
     (rw (c.in-Word.is, yes) refl, c.requires)

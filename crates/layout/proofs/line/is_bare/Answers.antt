@@ -10,7 +10,7 @@ pub returns-in_default : goal.returns-in_default
 returns-in_default c = elsewhere_bare c.args.section _ c.in_default.not-Data
 
 pub returns-then-not-begins_string : goal.returns-then-not-begins_string
-returns-then-not-begins_string c = rw c.in-Data.is (no_string_bare _ (sym c.begins_string.ensures ∙ not-true c.begins_string.result c.if-not-begins_string.true-raw))
+returns-then-not-begins_string c = rw c.in-Data.is (no_string_bare _ (sym c.begins_string.ensures ∙ c.if-not-begins_string.true))
 
 pub slice_bounds-find-end : goal.slice_bounds-find-end
 slice_bounds-find-end c = sym (length-take-le c.args.colon c.args.bytes.now (omega (arith, c.requires.1)))
@@ -18,4 +18,4 @@ slice_bounds-find-end c = sym (length-take-le c.args.colon c.args.bytes.now (ome
 pub returns : goal.returns
 returns c =
     rw c.in-Data.is
-    (string_bare _ _ c.requires.0 (sym c.begins_string.ensures ∙ not-false c.begins_string.result c.if-not-begins_string.false-raw) _ c.find.ensures)
+    (string_bare _ _ c.requires.0 (sym c.begins_string.ensures ∙ c.if-not-begins_string.false) _ c.find.ensures)

@@ -10,5 +10,5 @@ use Rattle.layout.proofs.pseudo.kind_of.Goals as goal
 pub returns-then-not-begins_as_pseudo : goal.returns-then-not-begins_as_pseudo
 returns-then-not-begins_as_pseudo c =
     let a = c.args in
-    let e = rw c.span_bytes.ensures at (sym c.begins_as_pseudo.ensures ∙ not-true _ c.if-not-begins_as_pseudo.true-raw) in
+    let e = rw c.span_bytes.ensures at (sym c.begins_as_pseudo.ensures ∙ c.if-not-begins_as_pseudo.true) in
     sym (ap (λ (i : Item). text_line_code i a.source) (other-first spellings (spanned a.text.now a.source) spellings_begun e))

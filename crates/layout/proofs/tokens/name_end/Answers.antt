@@ -9,12 +9,12 @@ use Rattle.layout.proofs.tokens.name_end.Goals as goal
 
 pub returns-then-not-is_name_byte : goal.returns-then-not-is_name_byte
 returns-then-not-is_name_byte c =
-    let other = sym c.is_name_byte.ensures ∙ not-true _ c.if-not-is_name_byte.true-raw in
+    let other = sym c.is_name_byte.ensures ∙ c.if-not-is_name_byte.true in
     omega (arith, leading-stop is_name_byte c.args.s.now c.loop-i.i (search rules) other)
 
 pub loop-i-preserved : goal.loop-i-preserved
 loop-i-preserved c =
-    let one = sym c.is_name_byte.ensures ∙ not-false _ c.if-not-is_name_byte.false-raw in
+    let one = sym c.is_name_byte.ensures ∙ c.if-not-is_name_byte.false in
     omega (arith, leading_more is_name_byte c.args.s.now c.loop-i.i (search rules) one)
 
 pub returns : goal.returns

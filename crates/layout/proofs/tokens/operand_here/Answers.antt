@@ -20,14 +20,14 @@ returns-then-is_digit c =
 pub returns-then-not-is_name_byte : goal.returns-then-not-is_name_byte
 returns-then-not-is_name_byte c =
     other_stands c.args.s.now c.args.at c.requires.0 c.requires.1 (sym c.is_digit.ensures ∙ c.if-is_digit.false)
-    (sym c.is_name_byte.ensures ∙ not-true _ c.if-not-is_name_byte.true-raw)
+    (sym c.is_name_byte.ensures ∙ c.if-not-is_name_byte.true)
 
 pub returns-then-b-len : goal.returns-then-b-len
 returns-then-b-len c =
     dot_stands c.args.s.now c.args.at c.requires.0 c.requires.1 (sym c.is_digit.ensures ∙ c.if-is_digit.false)
-    (sym c.is_name_byte.ensures ∙ not-false _ c.if-not-is_name_byte.false-raw) c.name_end-end.result c.name_end-end.ensures c.if-b-len.true
+    (sym c.is_name_byte.ensures ∙ c.if-not-is_name_byte.false) c.name_end-end.result c.name_end-end.ensures c.if-b-len.true
 
 pub returns : goal.returns
 returns c =
     name_stands c.args.s.now c.args.at c.requires.0 c.requires.1 (sym c.is_digit.ensures ∙ c.if-is_digit.false)
-    (sym c.is_name_byte.ensures ∙ not-false _ c.if-not-is_name_byte.false-raw) c.name_end-end.result c.name_end-end.ensures c.if-b-len.false
+    (sym c.is_name_byte.ensures ∙ c.if-not-is_name_byte.false) c.name_end-end.result c.name_end-end.ensures c.if-b-len.false

@@ -9,12 +9,12 @@ use Rattle.layout.proofs.tokens.skip_blanks.Goals as goal
 
 pub returns-then-not-is_blank_in : goal.returns-then-not-is_blank_in
 returns-then-not-is_blank_in c =
-    let other = sym c.is_blank_in.ensures ∙ not-true _ c.if-not-is_blank_in.true-raw in
+    let other = sym c.is_blank_in.ensures ∙ c.if-not-is_blank_in.true in
     omega (arith, leading-stop (blank_in c.args.one_space) c.args.s.now c.loop-i.i (search rules) other)
 
 pub loop-i-preserved : goal.loop-i-preserved
 loop-i-preserved c =
-    let one = sym c.is_blank_in.ensures ∙ not-false _ c.if-not-is_blank_in.false-raw in
+    let one = sym c.is_blank_in.ensures ∙ c.if-not-is_blank_in.false in
     omega (arith, leading_more (blank_in c.args.one_space) c.args.s.now c.loop-i.i (search rules) one)
 
 pub returns : goal.returns

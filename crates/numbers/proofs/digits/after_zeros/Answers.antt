@@ -24,12 +24,12 @@ returns-then-s-i-lt16 c =
 pub returns-then-not-zeros_in_sixteen : goal.returns-then-not-zeros_in_sixteen
 returns-then-not-zeros_in_sixteen c =
     let here = leading_zeros (drop c.loop-i.i c.args.s.now) in
-    omega (arith, left (goal.at.returns-then-not-zeros_in_sixteen c).At-loop-i, leb-false 16 here (sym c.zeros_in_sixteen.ensures ∙ not-true _ c.if-not-zeros_in_sixteen.true-raw))
+    omega (arith, left (goal.at.returns-then-not-zeros_in_sixteen c).At-loop-i, leb-false 16 here (sym c.zeros_in_sixteen.ensures ∙ c.if-not-zeros_in_sixteen.true))
 
 pub loop-i-preserved : goal.loop-i-preserved
 loop-i-preserved c =
     let here = leading_zeros (drop c.loop-i.i c.args.s.now) in
-    omega (arith, left (goal.at.loop-i-preserved c).At-loop-i, leb-true 16 here (sym c.zeros_in_sixteen.ensures ∙ not-false _ c.if-not-zeros_in_sixteen.false-raw))
+    omega (arith, left (goal.at.loop-i-preserved c).At-loop-i, leb-true 16 here (sym c.zeros_in_sixteen.ensures ∙ c.if-not-zeros_in_sixteen.false))
 
 pub returns : goal.returns
 returns c = omega (arith, left (goal.at.returns c).At-loop-i, leading_end is_zero c.args.s.now c.loop-i.i c.loop-i-test.false)

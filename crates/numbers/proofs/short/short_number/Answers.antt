@@ -14,12 +14,12 @@ pub returns-then-not-byte_at : goal.returns-then-not-byte_at
 returns-then-not-byte_at c =
     let s = c.args.s.now in
     let first = c.after_blanks-first.result in
-    let none = longer_prefix 48 (text "x") (drop first s) (sym c.byte_at.ensures ∙ not-true _ c.if-not-byte_at.true-raw) in
+    let none = longer_prefix 48 (text "x") (drop first s) (sym c.byte_at.ensures ∙ c.if-not-byte_at.true) in
     c.digits_at.ensures ∙ decimal_short s c.args.at first c.after_blanks-first.ensures none
 
 -- a zero stands after the blanks
 zero : (c : Else-not-byte_at) → starts_with (text "0") (drop c.after_blanks-first.result c.args.s.now) ≡ true
-zero c = sym c.byte_at.ensures ∙ not-false _ c.if-not-byte_at.false-raw
+zero c = sym c.byte_at.ensures ∙ c.if-not-byte_at.false
 
 pub overflow_add-first : goal.overflow_add-first
 overflow_add-first c =
@@ -33,7 +33,7 @@ overflow_add-first c =
 hex : (c : After-byte_at-2) (x : Bool) → c.byte_at-2.result ≡ x →
     starts_with (text "0x") (drop c.after_blanks-first.result c.args.s.now) ≡ x
 hex c x e =
-    hex_bytes c.args.s.now c.after_blanks-first.result x (sym c.byte_at.ensures ∙ not-false _ c.if-not-byte_at.false-raw) (sym c.byte_at-2.ensures ∙ e)
+    hex_bytes c.args.s.now c.after_blanks-first.result x (sym c.byte_at.ensures ∙ c.if-not-byte_at.false) (sym c.byte_at-2.ensures ∙ e)
 
 pub overflow_add-first-then-byte_at : goal.overflow_add-first-then-byte_at
 overflow_add-first-then-byte_at c =

@@ -16,12 +16,12 @@ loop-n-init c = (omega arith, refl, omega arith)
 
 pub returns-then-not-is_digit : goal.returns-then-not-is_digit
 returns-then-not-is_digit c =
-    let d = sym c.is_digit.ensures ∙ not-true _ c.if-not-is_digit.true-raw in
+    let d = sym c.is_digit.ensures ∙ c.if-not-is_digit.true in
     c.octal.ensures ∙ octal_stop _ _ _ c.loop-n.invariant.0 c.loop-n.invariant.1 _ c.byte_at-b.ensures d
 
 -- the byte at n is a digit
 digit : (d : Else-not-is_digit) → is_digit d.byte_at-b.result ≡ true
-digit d = sym d.is_digit.ensures ∙ not-false _ d.if-not-is_digit.false-raw
+digit d = sym d.is_digit.ensures ∙ d.if-not-is_digit.false
 
 pub overflow_mul-v : goal.overflow_mul-v
 overflow_mul-v c =

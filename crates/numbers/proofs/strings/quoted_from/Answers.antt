@@ -13,7 +13,7 @@ use Rattle.numbers.proofs.strings.quoted_from.Goals.{Else-not-nothing_beside}
 
 -- the string is closed, with nothing beside it
 clear : (d : Else-not-nothing_beside) → nothing_beside (drop (d.quote_from-end.result + 1) d.args.s.now) ≡ true
-clear d = sym (rw tail at d.nothing_beside.ensures) ∙ not-false _ d.if-not-nothing_beside.false-raw
+clear d = sym (rw tail at d.nothing_beside.ensures) ∙ d.if-not-nothing_beside.false
 
 pub quote_from-end-requires : goal.quote_from-end-requires
 quote_from-end-requires c = (mark_within _ _ _ c.requires c.mark_from-mark.ensures, mark_rests _ _ _ c.requires c.mark_from-mark.ensures)
@@ -23,7 +23,7 @@ returns-then-s-end c = rw (unclosed _ _ _ c.requires c.mark_from-mark.ensures _ 
 
 pub returns-then-not-nothing_beside : goal.returns-then-not-nothing_beside
 returns-then-not-nothing_beside c =
-    let some_beside = sym (rw tail at c.nothing_beside.ensures) ∙ not-true _ c.if-not-nothing_beside.true-raw in
+    let some_beside = sym (rw tail at c.nothing_beside.ensures) ∙ c.if-not-nothing_beside.true in
     rw (beside _ _ _ c.requires c.mark_from-mark.ensures _ c.quote_from-end.ensures c.if-s-end.false some_beside) refl
 
 pub returns-in_default : goal.returns-in_default

@@ -16,13 +16,13 @@ loop-i-init c = (search rules, ap trim_end (take-length _))
 pub returns-then-not-is_space : goal.returns-then-not-is_space
 returns-then-not-is_space c =
     let s = c.args.s.now in
-    let e : is_space (get_or s (c.loop-i.i - 1) 0) ≡ false = sym c.is_space.ensures ∙ not-true _ c.if-not-is_space.true-raw in
+    let e : is_space (get_or s (c.loop-i.i - 1) 0) ≡ false = sym c.is_space.ensures ∙ c.if-not-is_space.true in
     sym (end_other s c.loop-i.i (search rules) (search rules) e) ∙ ap length c.loop-i.invariant.1
 
 pub loop-i-preserved : goal.loop-i-preserved
 loop-i-preserved c =
     let s = c.args.s.now in
-    let e : is_space (get_or s (c.loop-i.i - 1) 0) ≡ true = sym c.is_space.ensures ∙ not-false _ c.if-not-is_space.false-raw in
+    let e : is_space (get_or s (c.loop-i.i - 1) 0) ≡ true = sym c.is_space.ensures ∙ c.if-not-is_space.false in
     (search rules, end_space s c.loop-i.i (search rules) (search rules) e ∙ c.loop-i.invariant.1)
 
 pub returns : goal.returns
