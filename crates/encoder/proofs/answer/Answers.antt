@@ -1,6 +1,5 @@
 -- `answer`: each test that fails is told by the answer that returns there.
 use Rattle.std.proofs.Common.{refl}
-use borrow.Author.Tests.{not-true, not-false}
 use Rattle.encoder.proofs.answer.Goals as goal
 
 pub returns-then-not-registers : goal.returns-then-not-registers

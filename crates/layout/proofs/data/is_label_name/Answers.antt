@@ -2,7 +2,6 @@
 use native.Mathlib.Omega.{arith}
 use mathlib.Core.Path.{refl, sym, ◌∙◌}
 use borrow.Author.Rules.{rules}
-use borrow.Author.Tests.{not-true, not-false}
 use Rattle.layout.proofs.NameLaws.{name_empty, name-first, name_more, name-stop, name_end}
 use Rattle.layout.proofs.data.is_label_name.Goals as goal
 

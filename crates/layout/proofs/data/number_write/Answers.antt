@@ -1,7 +1,6 @@
 -- `data::number_write`: a number in its width's range.
 use mathlib.Core.Path.{refl, sym, ◌∙◌}
 use mir.Facts.{to_z-of_z}
-use borrow.Author.Tests.{not-true, not-false}
 use Rattle.layout.proofs.data.number_write.Goals as goal
 
 pub returns-then-not-takes : goal.returns-then-not-takes

@@ -2,7 +2,6 @@
 use mathlib.Core.Path.{sym, ◌∙◌}
 use native.Mathlib.Omega.{arith}
 use lib.Seq.{length-take-le}
-use borrow.Author.Tests.{not-true, not-false}
 use Rattle.layout.proofs.LineLaws.{elsewhere_bare, no_string_bare, string_bare}
 use Rattle.layout.proofs.line.is_bare.Goals as goal
 

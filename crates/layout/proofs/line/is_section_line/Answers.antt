@@ -1,7 +1,6 @@
 -- `line::is_section_line`: what begins with no dot is none; then the definition asks the same four, one after the other.
 use mathlib.Core.Path.{sym, ◌∙◌}
 use mathlib.Core.Bool.{or-false}
-use borrow.Author.Tests.{not-true}
 use Rattle.layout.proofs.StatementLaws.{undotted_line}
 use Rattle.layout.proofs.line.is_section_line.Goals as goal
 

@@ -1,6 +1,5 @@
 -- `line::reserves_in`: each section's own answer.
 use mathlib.Core.Path.{refl}
-use borrow.Author.Tests.{not-true, not-false}
 use Rattle.layout.proofs.line.reserves_in.Goals as goal
 
 pub returns-then-not-in_data : goal.returns-then-not-in_data

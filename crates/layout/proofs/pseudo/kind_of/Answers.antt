@@ -1,6 +1,5 @@
 -- `pseudo::kind_of`: a line that begins otherwise than every name is ordinary.
 use mathlib.Core.Path.{sym, ap, ◌∙◌}
-use borrow.Author.Tests.{not-true}
 use Rattle.numbers.specs.Code.Spans.{spanned}
 use Rattle.layout.specs.Pseudos.{Item, spellings}
 use Rattle.layout.specs.Code.Kinds.{text_line_code}

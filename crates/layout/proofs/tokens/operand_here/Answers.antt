@@ -1,7 +1,6 @@
 -- `tokens::operand_here`: the definition makes the code's tests in the code's order; a law for each answer.
 use mathlib.Core.Path.{sym, ◌∙◌}
 use borrow.Author.Rules.{rules}
-use borrow.Author.Tests.{not-true, not-false}
 use Rattle.layout.specs.Expressions.{is_number_byte}
 use Rattle.layout.proofs.TokenLaws.{run-within, number_stands, other_stands, dot_stands, name_stands}
 use Rattle.layout.proofs.tokens.operand_here.Goals as goal

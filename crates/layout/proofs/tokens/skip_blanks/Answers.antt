@@ -2,7 +2,6 @@
 use mathlib.Core.Path.{sym, ◌∙◌}
 use native.Mathlib.Omega.{arith}
 use borrow.Author.Rules.{rules}
-use borrow.Author.Tests.{not-true, not-false}
 use Rattle.numbers.proofs.Trims.{leading_more, leading-stop, leading_end}
 use Rattle.layout.specs.Code.Tokens.{blank_in}
 use Rattle.layout.proofs.tokens.skip_blanks.Goals as goal

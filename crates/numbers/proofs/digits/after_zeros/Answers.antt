@@ -3,7 +3,7 @@ use Prim.Native.Nat.{◌+◌, ◌-◌}
 use mathlib.Core.Path.{◌≡◌, sym, ◌∙◌}
 use native.Mathlib.Omega.{arith}
 use lib.ListN.{drop, length-drop}
-use borrow.Author.Tests.{not-true, not-false, leb-true, leb-false}
+use borrow.Author.Tests.{leb-true, leb-false}
 use Rattle.numbers.specs.Code.Starts.{is_zero, leading_zeros}
 use Rattle.numbers.proofs.Trims.{leading_between, leading-within, leading_end}
 use Rattle.numbers.proofs.digits.after_zeros.Goals as goal

@@ -3,7 +3,6 @@ use mathlib.Core.Path.{◌≡◌, sym, ◌∙◌}
 use mathlib.Core.Bool.{Bool, true, false}
 use lib.ListN.{drop, length-drop}
 use borrow.Author.Rules.{rules}
-use borrow.Author.Tests.{not-true, not-false}
 use Rattle.numbers.specs.Text.{text, starts_with}
 use Rattle.numbers.proofs.Prefixes.{prefix_length, longer_prefix}
 use Rattle.numbers.proofs.Shorts.{hex_bytes, decimal_short, zeros_short, hex_short}

@@ -1,7 +1,6 @@
 -- `strings::octal_of`: the first n bytes are digits, and v is their value.
 use mathlib.Core.Path.{◌≡◌, refl, sym, ◌∙◌}
 use native.Mathlib.Omega.{arith}
-use borrow.Author.Tests.{not-true, not-false}
 use mathlib.Core.Bool.{true}
 use Rattle.numbers.specs.Text.{is_digit}
 use Rattle.numbers.specs.Numbers.{value_from}

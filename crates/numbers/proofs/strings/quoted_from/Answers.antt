@@ -3,7 +3,6 @@ use Prim.Native.Nat.{◌+◌}
 use mathlib.Core.Path.{◌≡◌, refl, sym, ◌∙◌}
 use mathlib.Core.Bool.{true}
 use lib.ListN.{drop}
-use borrow.Author.Tests.{not-true, not-false}
 use Rattle.numbers.proofs.Trims.{tail}
 use Rattle.numbers.specs.Strings.{nothing_beside}
 use Rattle.numbers.proofs.QuoteLaws.{mark_within, mark_rests, unclosed, beside, counted, counted_few}

@@ -2,7 +2,6 @@
 use mathlib.Core.Path.{sym, ◌∙◌}
 use native.Mathlib.Omega.{arith}
 use borrow.Author.Rules.{rules}
-use borrow.Author.Tests.{not-true, not-false}
 use Rattle.numbers.specs.Text.{is_space}
 use Rattle.numbers.proofs.Trims.{leading_more, leading-stop, leading_end}
 use Rattle.numbers.proofs.text.leading_spaces.Goals as goal

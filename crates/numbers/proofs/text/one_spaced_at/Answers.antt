@@ -1,7 +1,6 @@
 -- `text::one_spaced_at`: the definition looks at the byte at the place and at the one after it, as the code does.
 use Prim.Native.Nat.{◌+◌}
 use mathlib.Core.Path.{refl, sym, ◌∙◌}
-use borrow.Author.Tests.{not-true, not-false}
 use Rattle.numbers.proofs.Spaced.{head_other, head_space, first_at, first_end}
 use borrow.Author.Rules.{rules}
 use Rattle.numbers.proofs.text.one_spaced_at.Goals as goal

@@ -2,7 +2,7 @@
 use mathlib.Core.Path.{sym, ◌∙◌}
 use native.Mathlib.Omega.{arith}
 use lib.ListN.{drop}
-use borrow.Author.Tests.{not-true, not-false, leb-true, leb-false}
+use borrow.Author.Tests.{leb-true, leb-false}
 use Rattle.numbers.specs.Text.{is_space, leading_spaces}
 use Rattle.numbers.proofs.Trims.{leading-from, leading-within}
 use Rattle.numbers.proofs.text.space_blocks.Goals as goal

@@ -5,7 +5,6 @@ use mathlib.Core.Bool.{true, false}
 use lib.ListN.{length, get_or}
 use lib.Seq.{take-length}
 use borrow.Author.Rules.{rules}
-use borrow.Author.Tests.{not-true, not-false}
 use Rattle.numbers.specs.Text.{is_space, trim_end}
 use Rattle.numbers.proofs.Trims.{end_space, end_other, end_none}
 use Rattle.numbers.proofs.text.trim_end_len.Goals as goal
