@@ -183,7 +183,7 @@ module _ (t : List ℕ) where
   operand_inside s l p q g h w (value (own (stores (Numbers x) rest))) i j = labelled_inside s p h
   operand_inside s l p q g h w (value (own (stores Float rest))) i j = labelled_inside s p h
   operand_inside s l p q g h w (value (own (item x))) i j = labelled_inside s p h
-  operand_inside s l p q g h w (value (own (string zeros rest))) i j = labelled_inside s p h
+  operand_inside s l p q g h w (value (own (string _ rest))) i j = labelled_inside s p h
   operand_inside s l p q g h w (value (own (reserves x rest))) i j = labelled_inside s p h
   operand_inside s l p q g h w (value (own (reserves_bss x rest))) i j = labelled_inside s p h
   operand_inside s l p q g h w (value nothing) i j = labelled_inside s p h

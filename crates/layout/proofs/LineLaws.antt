@@ -75,7 +75,7 @@ module _ (t : List ℕ) (c : Cut) (part rest : Span) where
   -- one behind a label with a quote, and any other
   pub stored_unchanged : (zeros : ℕ) → quote_between t c.part.start part.start ≡ true → (q : Piece) → rest ≡ span_of q
       → Own (InData (Stores (Text zeros)) rest) ≡ statement_code (says_in t c part (value (own (stores (Text zeros) q))))
-  stored_unchanged zeros b q e = rw (b, e) refl
+  stored_unchanged _ b q e = rw (b, e) refl
 
   pub stored_string : (zeros : ℕ) → LineCut t c → quote_between t c.part.start part.start ≡ false → c.at ≤ rest.start → rest.start ≤ c.end
       → (q : Piece) → rest ≡ span_of q

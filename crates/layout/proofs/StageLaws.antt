@@ -205,7 +205,7 @@ module _ (t : List ℕ) where
   own-within : (s : OwnStatement) → OwnInside t s → OwnWithin t (own_code s)
   own-within (item p) g = g.within
   own-within (stores x p) g = (g.0, g.1.within)
-  own-within (string zeros p) g = (g.0, g.1.within)
+  own-within (string _ p) g = (g.0, g.1.within)
   own-within (reserves x p) g = (tt, g.within)
   own-within (reserves_bss x p) g = g.within
 

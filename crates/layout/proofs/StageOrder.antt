@@ -82,8 +82,8 @@ operand_sound w s = by (read_at w s)
     by (some z) = cond_has Sound (range_at w z) _ _ tt refl
 
 string_sound : (zeros : ℕ) (o : Option (List ℕ)) → Sound (string_write zeros o)
-string_sound zeros none = refl
-string_sound zeros (some bs) = tt
+string_sound _ none = refl
+string_sound _ (some bs) = tt
 
 store_sound : (x : Store) (s : List ℕ) → Each Sound (store_writes x s)
 store_sound (Numbers w) s = by (operands s)

@@ -126,7 +126,7 @@ pub record Stored (s : Section) (p rest : Piece) : Type 0 where
 abbrev OwnStores : Section → Piece → OwnStatement → Type 0
 OwnStores s p (item q) = Unit
 OwnStores s p (stores x rest) = Stored s p rest
-OwnStores s p (string zeros rest) = Unit
+OwnStores s p (string _ rest) = Unit
 OwnStores s p (reserves x rest) = Unit
 OwnStores s p (reserves_bss x rest) = Unit
 
@@ -213,7 +213,7 @@ operand_starts l p w s rest g = rw g.is (omega (arith, w.from), omega (arith, w.
 pub string_elsewhere : (l p : Piece) (s : Section) → (s ≡ section.Data → ⊥) → (x : Result ℕ Statement) → SaysStores s p x → string_in l x ≡ none
 string_elsewhere l p s h (value (own (stores x rest))) g = absurd (h g.in_data)
 string_elsewhere l p s h (value (own (item q))) g = refl
-string_elsewhere l p s h (value (own (string zeros rest))) g = refl
+string_elsewhere l p s h (value (own (string _ rest))) g = refl
 string_elsewhere l p s h (value (own (reserves x rest))) g = refl
 string_elsewhere l p s h (value (own (reserves_bss x rest))) g = refl
 string_elsewhere l p s h (value nothing) g = refl

@@ -141,7 +141,7 @@ operand_write w s = number_or_name w (read_at w s) s
 
 -- a string's bytes, "and `.asciz` and `.string` add a 0"; "9 string malformed"
 abbrev pub string_write : ℕ → Option (List ℕ) → Result ℕ Write
-string_write zeros none = refused 9
+string_write _ none = refused 9
 string_write zeros (some s) = value (bytes (s ++ replicate zeros 0))
 
 -- what a directive that stores does, operand by operand; a string as document 01 has it, "what stands between is stored unchanged" (others:
