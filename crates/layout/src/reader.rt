@@ -41,8 +41,7 @@ impl<'a> ExprReader<'a> {
     }
 }
 
-// The next token from a place on. It has plain parameters, so that the borrow checker covers who calls it: of functions that hold a reader it
-// covers none.
+// The next token from a place on, for callers that hold a slice and a place and no reader.
 pub fn token_of(s: &[u8], at: usize, one_space: bool) -> TokenAt
     ensures { TokenFrom one_space s.now at result }
 {
