@@ -9,7 +9,6 @@ use mathlib.Core.Option.{some}
 use lib.Dec.{ltb}
 use lib.ListN.{length, length-append}
 use borrow.Author.Tests.{ltb-true, ltb-false, lt-ltb, le-ltb, le-leb}
-use Rattle.io.specs.Digits.{hex_digit_ascii, last_digits, IsDigitCount}
 use Rattle.numbers.specs.Numbers.{digit_of, all_digits, value_from, digits_from, digits_of}
 use Rattle.numbers.proofs.Values.{digits_start}
 use Rattle.bench.specs.Lines.{digit, decimal_in, decimal}
@@ -43,25 +42,31 @@ pub decimal_more : (n : ℕ) → 10 ≤ n → decimal n ≡ decimal (n / 10) ++ 
 unfolding decimal
 decimal_more n h = rw (in_more n n h, turns_alike n (suc (n / 10)) (n / 10) (omega arith) (omega arith))
 
-glyph_digit : (d : ℕ) → d < 10 → hex_digit_ascii d ≡ digit d
-glyph_digit d h = rw (lt-ltb d 10 h)
+-- the last k digits of n, the most significant first
+abbrev pub last_digits : ℕ → ℕ → List ℕ
+last_digits zero n = []
+last_digits (suc k) n = last_digits k (n / 10) ++ (digit (n % 10) ∷ [])
+
+-- n has k digits, and no fewer
+abbrev pub IsDigitCount : ℕ → ℕ → Type 0
+IsDigitCount n k = (1 ≤ k) × (n < 10 ^ k) × (1 < k → 10 ^ (k - 1) ≤ n)
 
 -- the last k digits of a number that has k, and no fewer, are its digits
-pub fewest_decimal : (k n : ℕ) → IsDigitCount 10 1 n k → last_digits 10 k n ≡ decimal n
+pub fewest_decimal : (k n : ℕ) → IsDigitCount n k → last_digits k n ≡ decimal n
 fewest_decimal zero n f = absurd (omega (arith, f.0))
 fewest_decimal (suc zero) n f =
     let low : n < 10 = omega (arith, f.1) in
     let same : n % 10 ≡ n = omega arith in
-    rw (same, decimal_one n low, glyph_digit n low) refl
+    rw (same, decimal_one n low) refl
 fewest_decimal (suc (suc k)) n f =
     let two : suc (suc k) - 1 ≡ suc k = omega arith in
     let one : suc k - 1 ≡ k = omega arith in
     let more : 10 ^ suc k ≤ n = rw two at (f.2 (omega arith)) in
     let p : 10 ^ suc (suc k) ≡ 10 ^ suc k * 10 = pow-suc 10 (suc k) in
     let q : 10 ^ suc k ≡ 10 ^ k * 10 = pow-suc 10 k in
-    let fewer : IsDigitCount 10 1 (n / 10) (suc k) = (omega arith, omega (arith, f.1), λ _. rw one (omega arith)) in
+    let fewer : IsDigitCount (n / 10) (suc k) = (omega arith, omega (arith, f.1), λ _. rw one (omega arith)) in
     let least : 1 ≤ 10 ^ k = one-le-pow k 10 (omega arith) in
-    rw (decimal_more n (omega arith), ← fewest_decimal (suc k) (n / 10) fewer, glyph_digit (n % 10) (omega arith)) refl
+    rw (decimal_more n (omega arith), ← fewest_decimal (suc k) (n / 10) fewer) refl
 
 -- a number below 10 ^ k has at most k digits
 below_short : (k n : ℕ) → n < 10 ^ suc k → length (decimal n) ≤ suc k
@@ -74,6 +79,9 @@ below_short (suc k) n h = by (ltb n 10) refl (below_short k (n / 10) (omega (ari
 
 pub decimal_short : (n : ℕ) → n < 2 ^ 64 → length (decimal n) ≤ 20
 decimal_short n h = below_short 19 n (omega arith)
+
+pub tenth_short : (n : ℕ) → n < 2 ^ 64 → length (decimal (n / 10)) ≤ 19
+tenth_short n h = below_short 18 (n / 10) (omega arith)
 
 -- ---- read back: the number that the digits spell, as `numbers` reads one
 

@@ -1,2 +1,3 @@
+pub mod Counts
 pub mod Writes
 pub mod Inputs

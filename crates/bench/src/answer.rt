@@ -1,6 +1,6 @@
 // From a text to its line.
 ghost use Rattle.std.specs.Prelude.{◌≡◌, take};
-ghost use Rattle.io.specs.Counts.{IsPrefixLen};
+ghost use Rattle.bench.specs.Code.Counts.{IsPrefixLen};
 ghost use Rattle.bench.specs.Lines.{bench_line};
 
 use crate::line::{LINE_ROOM, accepted_line, refused_line};

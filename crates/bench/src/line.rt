@@ -1,24 +1,25 @@
 // The program's line, written into what is lent.
 ghost use Rattle.std.specs.Prelude.{◌≡◌, ◌∷◌, ◌+◌, ◌*◌, ◌≤◌, length, take};
-ghost use Rattle.io.specs.Counts.{IsPrefixLen};
+ghost use Rattle.bench.specs.Code.Counts.{IsPrefixLen};
 ghost use Rattle.numbers.specs.Text.{byte};
 ghost use Rattle.bench.specs.Lines.{decimal, fields, output_line, accepted_line, refused_line};
 ghost use Rattle.bench.specs.Code.Writes.{Begins};
 
-// A number of 64 bits has at most so many digits.
-const DIGITS: usize = 20;
-
 // Room for every line: a word of two bytes, at most four numbers, each after a space, and LF.
 pub const LINE_ROOM: usize = 87;
 
-// A number's digits at the start of what is lent: how many there are.
+// A number's digits at the start of what is lent: how many there are. A number of 64 bits has at most 20.
 fn put_decimal(dst: &mut [u8], n: u64) -> usize
     requires { 20 ≤ length dst.old }
     ensures { Begins (decimal n) dst.old dst.new result }
 {
-    let mut digits = [0u8; DIGITS];
-    let k = io::decimal(n, &mut digits);
-    bytes::copy(&digits[..k], dst)
+    if n < 10 {
+        dst[0] = b'0' + n as u8;
+        return 1;
+    }
+    let k = put_decimal(dst, n / 10);
+    dst[k] = b'0' + (n % 10) as u8;
+    k + 1
 }
 
 // A space and a number's digits.
@@ -50,7 +51,8 @@ fn put_line(out: &mut [u8], word: &[u8], numbers: &[u64]) -> usize
     requires { length word.now + 21 * length numbers.now + 1 ≤ length out.old }
     ensures { Begins (output_line word.now numbers.now) out.old out.new result }
 {
-    let at = bytes::copy(word, out);
+    let at = word.len();
+    out[..at].copy_from_slice(word);
     at + put_fields(&mut out[at..], numbers)
 }
 

@@ -9,7 +9,7 @@ use numbers::text::same_bytes;
 use replay::field::{after_field, field};
 
 // A register's number, or a shift.
-#[derive(Drop)]
+#[derive(Clone, Copy)]
 enum Small {
     Is(u8),
     Nothing,

@@ -9,6 +9,9 @@ pub const UNTOUCHED: u8 = 0xA5;
 
 pub const UNTOUCHED_WORD: u32 = 0xA5A5A5A5;
 
+// Room for the bytes of a listed field.
+pub const LISTED: usize = 65536;
+
 fn all_are(bytes: &[u8], b: u8) -> bool {
     let mut i = 0;
     while i < bytes.len() {
@@ -30,7 +33,7 @@ fn holds(bytes: usize, count: usize, size: usize) -> bool {
 
 // What was lent has the listed bytes, a count of records, and zeros behind them. What was not lent is as before.
 pub fn is_filled(buffer: &[u8], lent: usize, count: usize, size: usize, listed: &[u8]) -> bool {
-    let mut space = io::large_buffer();
+    let mut space = [0u8; LISTED];
     let n = decode(listed, &mut space);
     if lent < n {
         return false;

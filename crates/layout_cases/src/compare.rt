@@ -1,5 +1,5 @@
 // One line of the list against what the call answers and leaves in the buffers.
-use crate::buffers::{UNTOUCHED, UNTOUCHED_WORD, is_filled, is_filled_words};
+use crate::buffers::{LISTED, UNTOUCHED, UNTOUCHED_WORD, is_filled, is_filled_words};
 use crate::listed::{
     ANSWER, BASE, FIELDS, LENT, SOURCE, USED, are_numbers, field_at, field_count, number,
 };
@@ -27,7 +27,7 @@ fn answer_agrees(answer: Answer, line: &[u8]) -> bool {
 }
 
 // How many elements of each buffer are lent.
-#[derive(Drop)]
+#[derive(Clone, Copy)]
 struct Lent {
     words: usize,
     data_bytes: usize,
@@ -155,7 +155,7 @@ pub fn agrees(line: &[u8]) -> bool {
     if 4294967295 < base {
         return false;
     }
-    let mut space = io::large_buffer();
+    let mut space = [0u8; LISTED];
     let n = decode(field_at(line, SOURCE), &mut space);
     (field_count(line) == FIELDS) & call_agrees(&space[0..n], base as u32, line)
 }

@@ -3,7 +3,6 @@ ghost use Rattle.std.specs.Prelude.{◌≤◌, length};
 
 use numbers::digits::{Digits, Radix, parse_digits};
 use replay::field::field;
-use std::num::wrapping_add_usize;
 
 pub const FIELDS: usize = 22;
 
@@ -26,7 +25,7 @@ pub fn field_count(line: &[u8]) -> usize {
     let mut i = 0;
     while i < line.len() {
         if line[i] == b'\t' {
-            count = wrapping_add_usize(count, 1);
+            count = count.wrapping_add(1);
         }
         i += 1;
     }
@@ -68,7 +67,7 @@ pub fn number(listed: &[u8]) -> u64 {
 pub fn are_numbers(numbers: &[u64], line: &[u8], k: usize) -> bool {
     let mut i = 0;
     while i < numbers.len() {
-        if number(field_at(line, wrapping_add_usize(k, i))) != numbers[i] {
+        if number(field_at(line, k.wrapping_add(i))) != numbers[i] {
             return false;
         }
         i += 1;

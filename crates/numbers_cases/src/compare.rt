@@ -1,4 +1,5 @@
 // One line of the list against what the crate numbers answers.
+use itoa::Buffer;
 use numbers::imm::{parse_imm, parse_imm64};
 use numbers::ints::{Imm, Imm64, bits_of_i64, in_byte, in_half, in_signed12, widened};
 use numbers::literals::{StrLit, parse_char_lit, parse_str_lit};
@@ -19,9 +20,8 @@ fn test_agrees(answer: bool, expected: &[u8]) -> bool {
 }
 
 fn magnitude_agrees(n: u64, expected: &[u8]) -> bool {
-    let mut digits = [0u8; 20];
-    let k = io::decimal(n, &mut digits);
-    same_bytes(expected, &digits[..k])
+    let mut digits = Buffer::new();
+    same_bytes(expected, digits.format(n).as_bytes())
 }
 
 fn number_agrees(v: i64, expected: &[u8]) -> bool {
@@ -35,7 +35,7 @@ fn number_agrees(v: i64, expected: &[u8]) -> bool {
     if expected[0] != b'-' {
         return false;
     }
-    magnitude_agrees(std::num::wrapping_sub_u64(0, bits), &expected[1..])
+    magnitude_agrees(0u64.wrapping_sub(bits), &expected[1..])
 }
 
 fn number_or_no(answer: Imm64, expected: &[u8]) -> bool {
@@ -99,7 +99,7 @@ fn operands_agree(input: &[u8], expected: &[u8], keep_empty: bool) -> bool {
         if !part_agrees(span_bytes(input, span), expected, place) {
             return false;
         }
-        place = std::num::wrapping_add_usize(place, std::num::wrapping_add_usize(span.len, 1));
+        place = place.wrapping_add(span.len.wrapping_add(1));
         at = next;
         turns += 1;
     }

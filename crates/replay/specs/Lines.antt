@@ -30,6 +30,10 @@ step_of start part =
 unfoldable pub line_in : List ℕ → Cursor → Step
 line_in block c = step_of c.unread.start (spanned block c.unread)
 
+-- the part stands at the block's start
+abbrev pub Kept : List ℕ → List ℕ → Span → Type 0
+Kept before after part = (length (spanned before part) ≤ length after) × (take (length (spanned before part)) after ≡ spanned before part)
+
 -- after a refill the part stands at the block's start, and at the start there are n bytes of the list
 abbrev pub Refilled : List ℕ → List ℕ → Span → ℕ → Type 0
 Refilled before after part n =
@@ -45,3 +49,11 @@ NextFrom (End n) before after c r = (m : ℕ) × Refilled before after c.unread 
 
 abbrev pub NextLine : List ℕ → List ℕ → Cursor → Step → Type 0
 NextLine before after c r = NextFrom (line_in before c) before after c r
+
+-- a read failed: the block had no line, and the unread bytes stand at its start
+abbrev pub Unread : Step → List ℕ → List ℕ → Cursor → Type 0
+Unread (Line l next) before after c = ⊥
+Unread (End n) before after c = Kept before after c.unread
+
+abbrev pub Stopped : List ℕ → List ℕ → Cursor → Type 0
+Stopped before after c = Unread (line_in before c) before after c

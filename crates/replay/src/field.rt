@@ -7,7 +7,7 @@ use numbers::digits::digit;
 use numbers::text::{find, text_before};
 
 // A byte of a field, and how many bytes it is written with.
-#[derive(Drop)]
+#[derive(Clone, Copy)]
 struct Written {
     byte: u8,
     width: usize,

@@ -1,12 +1,15 @@
 // A list's lines, read through one block that the caller lends.
-ghost use Rattle.std.specs.Prelude.{◌≡◌, ◌≤◌, true, length, take, pos, negsuc, int_lt};
+ghost use Rattle.std.specs.Prelude.{◌≡◌, ◌≤◌, length, take, IfOk, OnErr};
 ghost use Rattle.numbers.specs.Code.Spans.{spanned};
-ghost use Rattle.replay.specs.Lines.{line_in, Refilled, NextLine};
+ghost use Rattle.replay.specs.Lines.{line_in, Kept, Refilled, NextLine, Stopped};
 
 use numbers::text::{Span, find, span_bytes};
+use std::io::{Error, ErrorKind, Read};
+use std::rt::Files;
+use std::{fs, io};
 
 // The part of the block that was read from the list and not yet given as lines.
-#[derive(Drop)]
+#[derive(Clone, Copy)]
 pub struct Cursor {
     pub unread: Span,
 }
@@ -18,7 +21,7 @@ impl Cursor {
     };
 }
 
-#[derive(Drop)]
+#[derive(Clone, Copy)]
 pub enum Step {
     // A line without its LF, as a part of the block, and the cursor behind it.
     Line(Span, Cursor),
@@ -26,16 +29,12 @@ pub enum Step {
     End(usize),
 }
 
-// Opens a list for reading. Where that fails it says why on standard error, and the answer is -1.
-pub fn open(path: &[u8]) -> i32
-    ensures { int_lt result (pos 0) ≡ true → result ≡ negsuc 0 }
-{
-    let fd = os::open_read(path);
-    if fd < 0 {
-        os::fail(path);
-        return -1;
+// Opens a list for reading. A path is text: one that is not UTF-8 opens nothing.
+pub fn open<R: Files>(rt: &R, path: &[u8]) -> io::Result<R::File> {
+    match str::from_utf8(path) {
+        Ok(name) => fs::open(rt, name),
+        Err(_) => Err(Error::from(ErrorKind::InvalidInput)),
     }
-    fd
 }
 
 // The first line of the unread bytes, if they have a whole one.
@@ -77,29 +76,46 @@ fn keep(block: &mut [u8], part: Span) -> usize
     n
 }
 
-// The part at the start of the block, and behind it what could be read; how many bytes that is.
-fn refill(fd: i32, block: &mut [u8], part: Span) -> usize
-    ensures { Refilled block.old block.new part result }
+// Reads until buf is full or the list ends; how many bytes that is.
+fn read_full<R: Read>(reader: &mut R, buf: &mut [u8]) -> io::Result<usize>
+    ensures { IfOk result (λ n. n ≤ length buf.new) }
+{
+    let mut n = 0;
+    while n < buf.len() {
+        let more = reader.read(&mut buf[n..])?;
+        if more == 0 {
+            return Ok(n);
+        }
+        n += more;
+    }
+    Ok(n)
+}
+
+// The part at the start of the block, and behind it what could be read; how many bytes that is. Where a read fails, the part is there all the same.
+fn refill<R: Read>(reader: &mut R, block: &mut [u8], part: Span) -> io::Result<usize>
+    ensures ok { IfOk result (λ n. Refilled block.old block.new part n) }
+    ensures err { OnErr result (Kept block.old block.new part) }
 {
     let kept = keep(block, part);
-    let got = io::read_full(fd, &mut block[kept..]);
-    kept + got
+    let got = read_full(reader, &mut block[kept..])?;
+    Ok(kept + got)
 }
 
 // The next line of a list. It has to fit the block; where it does not, the list ends there.
-pub fn next_line(fd: i32, block: &mut [u8], cursor: Cursor) -> Step
-    ensures { NextLine block.old block.new cursor result }
+pub fn next_line<R: Read>(reader: &mut R, block: &mut [u8], cursor: Cursor) -> io::Result<Step>
+    ensures ok { IfOk result (λ r. NextLine block.old block.new cursor r) }
+    ensures err { OnErr result (Stopped block.old block.new cursor) }
 {
     match line_in(block, cursor) {
-        Step::Line(line, next) => Step::Line(line, next),
+        Step::Line(line, next) => Ok(Step::Line(line, next)),
         Step::End(_) => {
-            let len = refill(fd, block, cursor.unread);
-            line_in(
+            let len = refill(reader, block, cursor.unread)?;
+            Ok(line_in(
                 block,
                 Cursor {
                     unread: Span { start: 0, len },
                 },
-            )
+            ))
         }
     }
 }

@@ -2,10 +2,10 @@
 ghost use Rattle.std.specs.Prelude.{◌≡◌};
 ghost use Rattle.replay.specs.Tallies.{tallied};
 
-use libc::STDOUT_FILENO;
+use std::io;
 
 // What the replay found so far. Lines are counted from 1; `first` is the first that did not agree, or 0.
-#[derive(Drop)]
+#[derive(Clone, Copy)]
 pub struct Tally {
     pub agreed: u64,
     pub differed: u64,
@@ -28,17 +28,17 @@ impl Tally {
         let first = self.first;
         if agrees {
             return Tally {
-                agreed: std::num::wrapping_add_u64(agreed, 1),
+                agreed: agreed.wrapping_add(1),
                 differed: self.differed,
                 first,
             };
         }
-        let differed = std::num::wrapping_add_u64(self.differed, 1);
+        let differed = self.differed.wrapping_add(1);
         if first == 0 {
             return Tally {
                 agreed,
                 differed,
-                first: std::num::wrapping_add_u64(agreed, differed),
+                first: agreed.wrapping_add(differed),
             };
         }
         Tally {
@@ -49,16 +49,10 @@ impl Tally {
     }
 }
 
-fn print(name: &[u8], n: u64) {
-    io::write_all(STDOUT_FILENO, name);
-    io::print_decimal(STDOUT_FILENO, n);
-    io::write_all(STDOUT_FILENO, b"\n");
-}
-
 // Writes the count to standard output, and how many bytes of the list stand after its last line.
-pub fn report(tally: Tally, rest: usize) {
-    print(b"agreed ", tally.agreed);
-    print(b"differed ", tally.differed);
-    print(b"first difference at line ", tally.first);
-    print(b"bytes after the last line ", rest as u64);
+pub fn report(rt: &impl Print, tally: Tally, rest: usize) -> io::Result<()> {
+    println!(rt; "agreed {}", tally.agreed)?;
+    println!(rt; "differed {}", tally.differed)?;
+    println!(rt; "first difference at line {}", tally.first)?;
+    println!(rt; "bytes after the last line {rest}")
 }

@@ -1,0 +1,9 @@
+-- `input::read_input`: each read that goes on adds at least one byte.
+use Rattle.std.proofs.Common.{length, ◌-◌, ◌≤◌}
+use Rattle.bench.proofs.input.read_input.Given as goal
+
+abbrev pub invariant-loop-n : goal.invariant-loop-n
+invariant-loop-n g l = l.n ≤ length l.buf
+
+abbrev pub decreases-loop-n : goal.decreases-loop-n
+decreases-loop-n g l = length l.initial.buf - l.n
