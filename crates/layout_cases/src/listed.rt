@@ -21,7 +21,7 @@ pub const USED: usize = 17;
 
 // How many fields the line has: one more than TABs.
 pub fn field_count(line: &[u8]) -> usize {
-    let mut count = 1;
+    let mut count: usize = 1;
     let mut i = 0;
     while i < line.len() {
         if line[i] == b'\t' {
