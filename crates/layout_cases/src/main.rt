@@ -51,5 +51,5 @@ fn replay_all<R: Read>(list: &mut R) -> io::Result<Outcome> {
 fn main(rt: HostRuntime) -> io::Result<()> {
     let mut list = open(&rt, b"cases")?;
     let outcome = replay_all(&mut list)?;
-    report(&rt, outcome.tally, outcome.rest)
+    report(&mut rt.stdout(), outcome.tally, outcome.rest)
 }

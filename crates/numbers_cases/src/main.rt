@@ -52,5 +52,5 @@ fn main(rt: HostRuntime) -> io::Result<()> {
     constants();
     let mut list = open(&rt, b"cases")?;
     let outcome = replay_all(&mut list)?;
-    report(&rt, outcome.tally, outcome.rest)
+    report(&mut rt.stdout(), outcome.tally, outcome.rest)
 }

@@ -1,5 +1,6 @@
 // A list's lines, read through one block that the caller lends.
-ghost use Rattle.std.specs.Prelude.{◌≡◌, ◌≤◌, length, take, IfOk, OnErr};
+ghost use Rattle.std.specs.Prelude.{◌≡◌, ◌≤◌, length, take, IfOk, OnOk, OnErr};
+ghost use Rattle.std.specs.Str.{IsUtf8};
 ghost use Rattle.numbers.specs.Code.Spans.{spanned};
 ghost use Rattle.replay.specs.Lines.{line_in, Kept, Refilled, NextLine, Stopped};
 
@@ -30,7 +31,9 @@ pub enum Step {
 }
 
 // Opens a list for reading. A path is text: one that is not UTF-8 opens nothing.
-pub fn open<R: Files>(rt: &R, path: &[u8]) -> io::Result<R::File> {
+pub fn open<R: Files>(rt: &R, path: &[u8]) -> io::Result<R::File>
+    ensures { OnOk result (IsUtf8 path.now) }
+{
     match str::from_utf8(path) {
         Ok(name) => fs::open(rt, name),
         Err(_) => Err(Error::from(ErrorKind::InvalidInput)),

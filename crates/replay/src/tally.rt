@@ -1,8 +1,10 @@
 // The count of a replay, and its report.
-ghost use Rattle.std.specs.Prelude.{◌≡◌};
-ghost use Rattle.replay.specs.Tallies.{tallied};
+ghost use Rattle.std.specs.Prelude.{◌≡◌, OnOk};
+ghost use Rattle.std.specs.Io.KnownBytes.{Appends};
+ghost use Rattle.replay.specs.Tallies.{tallied, report_line, reported};
 
 use std::io;
+use std::io::Write;
 
 // What the replay found so far. Lines are counted from 1; `first` is the first that did not agree, or 0.
 #[derive(Clone, Copy)]
@@ -49,10 +51,19 @@ impl Tally {
     }
 }
 
-// Writes the count to standard output, and how many bytes of the list stand after its last line.
-pub fn report(rt: &impl Print, tally: Tally, rest: usize) -> io::Result<()> {
-    println!(rt; "agreed {}", tally.agreed)?;
-    println!(rt; "differed {}", tally.differed)?;
-    println!(rt; "first difference at line {}", tally.first)?;
-    println!(rt; "bytes after the last line {rest}")
+// A line of the report: a name and a number.
+fn print<W: Write>(out: &mut W, name: &str, n: u64) -> io::Result<()>
+    ensures { OnOk result (Appends (W.contents out.old) (W.contents out.new) (report_line name.now n)) }
+{
+    writeln!(out, "{name}{n}")
+}
+
+// Writes the count, and how many bytes of the list stand after its last line.
+pub fn report<W: Write>(out: &mut W, tally: Tally, rest: usize) -> io::Result<()>
+    ensures { OnOk result (Appends (W.contents out.old) (W.contents out.new) (reported tally rest)) }
+{
+    print(out, "agreed ", tally.agreed)?;
+    print(out, "differed ", tally.differed)?;
+    print(out, "first difference at line ", tally.first)?;
+    print(out, "bytes after the last line ", rest as u64)
 }
