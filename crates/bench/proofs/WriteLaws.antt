@@ -1,22 +1,37 @@
 -- What one write after the other leaves: `Begins` carried on.
-use Prim.Native.Nat.{ℕ, suc, ◌+◌, ◌-◌, ◌≤◌, ◌<◌}
+use Prim.Native.Nat.{ℕ, suc, ◌+◌, ◌-◌, ◌^◌, ◌≤◌, ◌<◌}
 use native.Mathlib.Numerals.{add-one}
 use native.Mathlib.Omega.{arith}
 use mathlib.Core.Path.{◌≡◌, refl, sym, ap, ap₂, ◌∙◌}
 use mathlib.Core.List.{List, [], ◌∷◌, ◌++◌}
 use lib.ListN.{length, take, drop, get_or, set, length-append, length-drop}
-use lib.Seq.{length-take-le, take_at, drop-append-add, drop-drop, drop-cons, set_at, append_snoc}
+use lib.Seq.{take-length, length-take-le, take_at, drop-append-add, drop-drop, drop-cons, set_at, append_snoc}
 use Rattle.layout.proofs.ByteLaws.{put_lent, length_mid}
 use Rattle.bench.specs.Code.Counts.{IsPrefixLen}
+use Rattle.bench.specs.Lines.{decimal}
 use Rattle.bench.specs.Code.Writes.{Begins}
+use Rattle.bench.proofs.DecimalLaws.{last_digits, IsDigitCount, fewest_decimal, decimal_short}
 
 -- nothing is written yet
 pub begins_none : (xs : List ℕ) → Begins [] xs xs 0
 begins_none xs = record { count = refl; bytes = refl }
 
 -- what a copy leaves
-pub begins_copy : (src dst copied : List ℕ) → copied ≡ src → Begins src dst (copied ++ drop (length src) dst) (length src)
-begins_copy src dst copied e = record { count = refl; bytes = ap (λ (l : List ℕ). l ++ drop (length src) dst) e }
+pub begins_copy : (src dst after : List ℕ) (r : ℕ) → r ≡ length src → after ≡ take (length src) src ++ drop (length src) dst → Begins src dst after r
+begins_copy src dst after r n e = record { count = n; bytes = e ∙ rw (take-length src, n) }
+
+-- so does one into the front of what is lent
+pub begins_copied : (src dst copied : List ℕ) → copied ≡ src → Begins src dst (copied ++ drop (length src) dst) (length src)
+begins_copied src dst copied e = begins_copy src dst (copied ++ drop (length src) dst) (length src) refl (ap (λ (l : List ℕ). l ++ drop (length src) dst) (e ∙ sym (take-length src)))
+
+-- a number's digits as a writer spells them, the fewest and the last of them last: they fit 20 bytes, and what a copy of them leaves
+module _ (n k : ℕ) (spelt : List ℕ) (f : IsDigitCount n k) (d : take k spelt ≡ last_digits k n) where
+  pub spelt_short : n < 2 ^ 64 → length (take k spelt) ≤ 20
+  spelt_short h = rw (d ∙ fewest_decimal k n f) (decimal_short n h)
+
+  pub spelt_begins : (dst after : List ℕ) (r : ℕ) → r ≡ length (take k spelt)
+      → after ≡ take (length (take k spelt)) (take k spelt) ++ drop (length (take k spelt)) dst → Begins (decimal n) dst after r
+  spelt_begins dst after r c e = rw (← (d ∙ fewest_decimal k n f)) (begins_copy (take k spelt) dst after r c e)
 
 -- a buffer that begins so is as long as before
 pub begins_length : (xs before after : List ℕ) (r : ℕ) → Begins xs before after r → r ≤ length before → length after ≡ length before

@@ -1,8 +1,10 @@
 -- Parts of a block: where their bytes stand, and how they move to its start byte by byte.
-use Rattle.std.proofs.Common.{◌≡◌, ℕ, ◌+◌, ◌<◌, List, length, get_or, take, drop, set, sym, refl, ap, ◌∙◌, add_comm, add-one, arith, length-drop, take-append-drop, length-take, get_or-drop, take-suc, drop-drop, take-suc-set, drop-set-lt}
+use Rattle.std.proofs.Common.{◌≡◌, ℕ, ◌+◌, ◌-◌, ◌<◌, ◌≤◌, List, ◌++◌, length, get_or, take, drop, set, sym, refl, ap, ◌∙◌, add_comm, add-one, arith, length-append, length-drop, take-append-drop, length-take, length-take-le, get_or-drop, take-suc, drop-drop, take-suc-set, drop-set-lt}
+use borrow.Rule.Slice.PartMut.{put_mid, post_of, take_put}
 use lib.Seq.{take-append_seam}
 use Rattle.numbers.specs.declared.text.Span.{Span}
 use Rattle.numbers.specs.Code.Spans.{spanned}
+use Rattle.replay.specs.Lines.{Refilled}
 
 -- a part's bytes stand within the block
 pub part_within : (s : List ℕ) (p : Span) (u : List ℕ) (n : ℕ) → u ≡ spanned s p → n < length u → p.start + n < length s
@@ -33,3 +35,12 @@ module _ (s b : List ℕ) (start n : ℕ) (rest : drop n b ≡ drop n s) where
   -- and one less is as it was
   pub rest_less : (v : ℕ) → drop (n + 1) (set b n v) ≡ drop (n + 1) s
   rest_less v = drop-set-lt (n + 1) b n v (omega arith) ∙ sym (drop-drop 1 n b) ∙ ap (drop 1) rest ∙ drop-drop 1 n s
+
+-- what was kept stays at the start when more is read behind it
+pub refilled : (s m ys : List ℕ) (p : Span) (k g : ℕ) → k ≤ length m → k ≡ length (spanned s p) → take k m ≡ spanned s p → g ≤ length ys
+    → Refilled s (put_mid k (length m - k) m ys) p (k + g)
+refilled s m ys p k g h e t l = (
+  omega (arith, e),
+  omega (arith, l, length-append (take k m) (ys ++ post_of k (length m - k) m), length-append ys (post_of k (length m - k) m), length-take-le k m h),
+  ap (λ n. take n (put_mid k (length m - k) m ys)) (sym e) ∙ take_put k (length m - k) m ys h ∙ t,
+)
