@@ -1,5 +1,5 @@
-//! Links the static library that `rt staticlib jig` writes, or the one that
-//! KODHLACE_LIBRARY names, unless the feature `library` is off.
+//! Links the static library that `rt lib` in crates/jig writes, or the one
+//! that KODHLACE_LIBRARY names, unless the feature `library` is off.
 
 use std::path::{Path, PathBuf};
 use std::{env, fs};
@@ -12,11 +12,11 @@ fn main() {
     let here = env::var("CARGO_MANIFEST_DIR").expect("cargo names the package's folder");
     let library = match env::var_os("KODHLACE_LIBRARY") {
         Some(path) => PathBuf::from(path),
-        None => Path::new(&here).join("../../target/staticlib/libjig.a"),
+        None => Path::new(&here).join("../../crates/jig/out/libjig.a"),
     };
     let Ok(library) = fs::canonicalize(&library) else {
         panic!(
-            "there is no {}: run `rt staticlib jig`, or build with --no-default-features",
+            "there is no {}: run `rt lib` in crates/jig, or build with --no-default-features",
             library.display()
         );
     };
