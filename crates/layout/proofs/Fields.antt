@@ -336,13 +336,13 @@ module _ (t : List ℕ) (short : length t ≤ text_limit) (base : ℕ) (low : ba
         let label = label_address base σ in
         let n = length own.stored.bytes in
         let all : List ℕ → Turns → Emitted → Layout = layout base σ in
-        let Found-all : Turns → Type 0 = λ x. AllFound (turn base σ) es x.known x.evaluations in
+        let found_all : Turns → Type 0 = λ x. AllFound (turn base σ) es x.known x.evaluations in
         let emitting : Turns → Result Refusal Emitted = λ x. emit base (constant x.known) label own.items.list [] [] in
         and_then_comes (λ bs. length bs ≡ n) (LayoutFits t k) (InText t) (fill label own.stored.label_words own.stored.bytes)
         (λ bytes. and_then (resolve base σ es) (λ x. and_then (emitting x) (λ e. value (all bytes x e))))
         (fill_fits t label own.stored.label_words n own.stored.bytes refl f.rest.own.stored.each) (λ bytes b.
-        and_then_comes Found-all (LayoutFits t k) (InText t) (resolve base σ es) (λ x. and_then (emitting x) (λ e. value (all bytes x e)))
-        (comes_so Found-all Found-all (RoundsRefused base σ es) (InText t) (λ x d. d) rounds_line (resolve base σ es) (all_end base σ es)) (λ x d.
+        and_then_comes found_all (LayoutFits t k) (InText t) (resolve base σ es) (λ x. and_then (emitting x) (λ e. value (all bytes x e)))
+        (comes_so found_all found_all (RoundsRefused base σ es) (InText t) (λ x d. d) rounds_line (resolve base σ es) (all_end base σ es)) (λ x d.
         and_then_comes (EmitsFit t own.items.words own.items.list []) (LayoutFits t k) (InText t) (emitting x) (λ e. value (all bytes x e))
         (emit_fits t base low (constant x.known) label own.items.words own.items.list [] [] f.rest.own.items.consecutive
         f.rest.own.items.each tt tt)

@@ -12,7 +12,6 @@ use Rattle.layout.specs.Code.Steps.{Some}
 use Rattle.layout.specs.Code.Fits.{Each, EquateFits}
 use Rattle.layout.specs.Code.Index.{Indexed}
 use Rattle.layout.specs.Code.Stands.{label_store}
-use Rattle.layout.specs.Code.Lent.{}
 use Rattle.layout.specs.Code.Placed.{LabelsPlaced}
 
 -- a value, or none

@@ -13,7 +13,7 @@ unfoldable pub item_operands_from : List ℕ → ℕ → List (List ℕ)
 item_operands_from s at = non_empty (operands_from s at)
 
 -- the operand that begins at a place, and the place after its comma; where it has none, the text's length plus 1
--- (proofs/Parts.antt ties it to `operands`: `Operand-step`, `operand_end`, `operands-all`, `operand_bounds`)
+-- (proofs/Parts.antt ties it to `operands`: `operand_step`, `operand_end`, `operands-all`, `operand_bounds`)
 unfoldable pub operand_at : List ℕ → ℕ → Operand
 operand_at s at =
     cond (leb at (length s))
