@@ -1,4 +1,4 @@
-//! Links the static library that `rt lib` in crates/jig writes, or the one
+//! Links the static library that `tools/staticlib` writes, or the one
 //! that KODHLACE_LIBRARY names, unless the feature `library` is off.
 
 use std::path::{Path, PathBuf};
@@ -12,11 +12,11 @@ fn main() {
     let here = env::var("CARGO_MANIFEST_DIR").expect("cargo names the package's folder");
     let library = match env::var_os("KODHLACE_LIBRARY") {
         Some(path) => PathBuf::from(path),
-        None => Path::new(&here).join("../../crates/jig/out/libjig.a"),
+        None => Path::new(&here).join("../../target/staticlib/libjig.a"),
     };
     let Ok(library) = fs::canonicalize(&library) else {
         panic!(
-            "there is no {}: run `rt lib` in crates/jig, or build with --no-default-features",
+            "there is no {}: run `tools/staticlib`, or build with --no-default-features",
             library.display()
         );
     };

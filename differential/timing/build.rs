@@ -1,4 +1,4 @@
-//! Links the static library that `rt lib` in crates/jig writes, or the one
+//! Links the static library that `tools/staticlib` writes, or the one
 //! that KODHLACE_LIBRARY names.
 
 use std::path::{Path, PathBuf};
@@ -25,5 +25,5 @@ fn library() -> PathBuf {
 
 fn built() -> PathBuf {
     let here = env::var_os("CARGO_MANIFEST_DIR").expect("cargo names the package's folder");
-    Path::new(&here).join("../../crates/jig/out/libjig.a")
+    Path::new(&here).join("../../target/staticlib/libjig.a")
 }

@@ -1,4 +1,4 @@
-/* The layout as one call: crates/jig/out/libjig.a, by `rt lib` in crates/jig. Linux on x86-64.
+/* The layout as one call: target/staticlib/libjig.a, by `tools/staticlib`. Linux on x86-64.
  *
  * Only what stands under "The caller sees to it" is asked of a caller; nothing checks it. What the call returns and leaves in the buffers is proved,
  * for every text, base and set of buffers: the contract is `Called` in crates/jig/specs/Called.antt. The stack is measured; the compiler's back end

@@ -40,8 +40,7 @@ fn put_numbers(counts: &mut [u64], a: Answer)
 // A source at a base, laid out into the buffers that are lent, whatever they held and however long they are. The result is 0: accepted; else the
 // refusal's number. Into counts go the line, then how many words, data bytes, the data base, the bss size, how many labels, equates, items and
 // evaluations.
-#[unsafe(no_mangle)]
-pub extern "C" fn kodhlace_assemble(
+pub fn kodhlace_assemble(
     text: &[u8],
     base: u32,
     words: &mut [u32],

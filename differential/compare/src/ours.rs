@@ -1,4 +1,4 @@
-//! The call itself, through the static library of the crate `jig`.
+//! The call itself, through the static library of the crate `jig_c`.
 //!
 //! Nothing compares this declaration with the library: it follows the exported
 //! call, where a slice is a pointer and then a length.

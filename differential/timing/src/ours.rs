@@ -1,4 +1,4 @@
-//! Our code: the exported call of `crates/jig`, through its static library.
+//! Our code: the exported call of `crates/jig_c`, through its static library.
 //!
 //! Nothing compares this declaration with the library: it follows the crate's
 //! `src/lib.rt`, where a slice is a pointer and then a length.
