@@ -5,7 +5,7 @@ use native.Mathlib.Omega.{arith}
 use mathlib.Core.Path.{◌≡◌, refl, sym, ◌∙◌}
 use mathlib.Core.List.{List, [], ◌∷◌, ◌++◌}
 use mathlib.Core.Bool.{Bool, true, false, ◌&&◌}
-use mathlib.Core.Option.{some}
+use Rattle.std.proofs.Common.{Some}
 use lib.Dec.{ltb}
 use lib.ListN.{length, length-append}
 use borrow.Author.Tests.{ltb-true, ltb-false, lt-ltb, le-ltb, le-leb}
@@ -123,7 +123,7 @@ spelled (suc k) n h = by (ltb n 10) refl (spelled k (n / 10))
           value_snoc (decimal (n / 10)) 0 (n % 10) (omega arith) ∙ rw r.2 (omega arith),
         )
 
-pub decimal_back : (n limit : ℕ) → n ≤ limit → digits_of 10 limit (decimal n) ≡ some n
+pub decimal_back : (n limit : ℕ) → n ≤ limit → digits_of 10 limit (decimal n) ≡ Some n
 unfolding digits_from
 decimal_back n limit h =
     let r = spelled (suc n) n (omega arith) in

@@ -16,11 +16,11 @@ use Rattle.bench.specs.Lines.{decimal_in, decimal, fields, accepted_line, refuse
 ok_line : (a : Answer) → a.number ≡ 0
     → accepted_line a.counts.words a.counts.data_bytes a.counts.bss_size a.counts.evaluations ≡ answer_line a
 unfolding answer_line
-ok_line a none = rw (answer_line, eq-eqb a.number 0 none)
+ok_line a zero = rw (answer_line, eq-eqb a.number 0 zero)
 
 no_line : (a : Answer) → (a.number ≡ 0 → ⊥) → refused_line a.number a.line ≡ answer_line a
 unfolding answer_line
-no_line a some = rw (answer_line, ne_eqb a.number 0 some)
+no_line a refused = rw (answer_line, ne_eqb a.number 0 refused)
 
 -- what the program lends: zeros, as many as every limit allows
 abbrev zeros_lent : Lent
@@ -43,10 +43,10 @@ module _ (t : List ℕ) (k : Lent) (a : Answer) (given : a ≡ call_of t 0 k) (l
 
   pub accepted_call : a.number ≡ 0
       → accepted_line a.counts.words a.counts.data_bytes a.counts.bss_size a.counts.evaluations ≡ bench_line t
-  accepted_call none = ok_line a none ∙ given_line
+  accepted_call accepted = ok_line a accepted ∙ given_line
 
   pub refused-call : (a.number ≡ 0 → ⊥) → refused_line a.number a.line ≡ bench_line t
-  refused-call some = no_line a some ∙ given_line
+  refused-call refused = no_line a refused ∙ given_line
 
 -- "input longer than 65,536 bytes gives `no 41 1`"
 pub long_line : refused_line 41 0 ≡ text "no 41 1\n"

@@ -20,7 +20,7 @@ pub fn bench_line(text: &[u8], out: &mut [u8; LINE_ROOM]) -> usize
     let mut labels = [0u8; LABEL_LIMIT * LABEL_SIZE];
     let mut equates = [0u8; EQUATE_LIMIT * EQUATE_SIZE];
     let mut items = [0u8; ITEM_LIMIT * ITEM_SIZE];
-    let answer = assemble(
+    let laid = assemble(
         text,
         0,
         &mut words,
@@ -29,15 +29,14 @@ pub fn bench_line(text: &[u8], out: &mut [u8; LINE_ROOM]) -> usize
         &mut equates,
         &mut items,
     );
-    if answer.number != 0 {
-        return refused_line(answer.number, answer.line, out);
+    match laid {
+        Ok(counts) => accepted_line(
+            counts.words,
+            counts.data_bytes,
+            counts.bss_size,
+            counts.evaluations,
+            out,
+        ),
+        Err(refused) => refused_line(refused.refusal.number(), refused.line, out),
     }
-    let counts = answer.counts;
-    accepted_line(
-        counts.words,
-        counts.data_bytes,
-        counts.bss_size,
-        counts.evaluations,
-        out,
-    )
 }

@@ -1,4 +1,3 @@
-pub mod Immediates
 pub mod Fields
 pub mod Shifts
 pub mod Load

@@ -1,2 +1,2 @@
 pub mod Meanings
-pub mod Slots
+pub mod Words

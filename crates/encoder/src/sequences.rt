@@ -1,312 +1,260 @@
 // Instruction sequences, built of registers and a number or an address, and their words.
-ghost use Rattle.std.specs.Prelude.{◌≡◌, ◌+◌, ◌<◌, ◌≤◌, length};
+ghost use Rattle.std.specs.Prelude.{◌≡◌, ◌≤◌, List, length, take, map};
+ghost use Rattle.encoder.specs.declared.instruction.Instruction as declared;
 ghost use Rattle.encoder.specs.declared.instruction.Instruction.TheVariants.{Addi, Lui, Lbu, Lw, Sw, Beq, Jal, Sub};
-ghost use Rattle.encoder.specs.Encoding.{encoding, encoded};
+ghost use Rattle.encoder.specs.declared.sequences.TheConstants.{LONGEST};
+ghost use Rattle.encoder.specs.Encoding.{encoded};
 ghost use Rattle.encoder.specs.Split.{load_pair};
 ghost use Rattle.encoder.specs.Sequences.{load_single, pushes, pops, prints, randoms, prints_str, reads, reads_byte};
-ghost use Rattle.encoder.specs.Code.Meanings.{encoded_result, put_result};
-ghost use Rattle.encoder.specs.Code.Slots.{longest, ecalls_of, with_slot, with_slots, slot_at, instructions_in, Puts};
+ghost use Rattle.encoder.specs.Code.Meanings.{numbered};
+ghost use Rattle.encoder.specs.Code.Words.{Puts};
 
+use crate::encode;
+use crate::error::EncodeError;
 use crate::instruction::Instruction;
 use crate::split::{lower_part, upper_part};
-use crate::{Encoded, encode};
-use numbers::ints::i32_of_bits;
 use numbers::registers::Register;
+use std::marker::Model;
 
 // The longest sequence, print_str's.
 pub const LONGEST: usize = 11;
 
-// One instruction of a sequence.
+// One instruction. A struct is copied whole; the bytes of an enum in an array would be copied one by one, which is slower.
 #[derive(Clone, Copy)]
-pub struct Slot {
-    pub inst: Instruction,
-}
+struct Slot(Instruction);
+
+const ECALL: Slot = Slot(Instruction::Ecall);
 
 // The instructions in the first slots, as many as are counted.
-#[derive(Clone, Copy)]
+#[derive(Drop)]
 pub struct Expansion {
-    pub slots: [Slot; LONGEST],
-    pub count: usize,
+    slots: [Slot; LONGEST],
+    count: usize,
 }
 
-// Slots begin as ecalls, so that an ecall in a sequence needs no store.
-fn ecalls(count: usize) -> Expansion
-    ensures { result ≡ ecalls_of count }
-{
-    Expansion {
-        slots: [Slot {
-            inst: Instruction::Ecall,
-        }; LONGEST],
-        count,
+impl Model for Expansion {
+    ghost Value = { List declared.Instruction };
+
+    ghost view = { λ e. map (λ s. s.0) (take e.count e.slots) };
+
+    // The slots' length is their type's, which a proof that opens an expansion is not told.
+    ghost invariant = { λ e. (e.count ≤ LONGEST) × (length e.slots ≡ LONGEST) };
+}
+
+impl Expansion {
+    fn of<const N: usize>(instructions: [Slot; N]) -> Self
+        requires { N ≤ LONGEST }
+        ensures { result ≡ map (λ s. s.0) instructions.entry }
+    {
+        let mut slots = [ECALL; LONGEST];
+        slots[..N].copy_from_slice(&instructions);
+        Expansion { slots, count: N }
     }
 }
 
-// The expansion with another instruction in its kth slot.
-fn with(mut e: Expansion, k: usize, inst: Instruction) -> Expansion
-    requires { k < longest }
-    ensures { result ≡ with_slot e k inst }
+// The instructions that sequences are made of.
+fn addi(rd: Register, rs1: Register, imm: i32) -> Slot
+    ensures { result.0 ≡ Addi rd.0 rs1.0 imm }
 {
-    e.slots[k] = Slot { inst };
-    e
+    Slot(Instruction::Addi {
+        rd: rd.0,
+        rs1: rs1.0,
+        imm,
+    })
 }
 
-// The same for each instruction that a sequence has.
-fn addi(e: Expansion, k: usize, rd: Register, rs1: Register, imm: i32) -> Expansion
-    requires { k < longest }
-    ensures { result ≡ with_slot e k (Addi rd.0 rs1.0 imm) }
+fn sub(rd: Register, rs1: Register, rs2: Register) -> Slot
+    ensures { result.0 ≡ Sub rd.0 rs1.0 rs2.0 }
 {
-    with(
-        e,
-        k,
-        Instruction::Addi {
-            rd: rd.0,
-            rs1: rs1.0,
-            imm,
-        },
-    )
+    Slot(Instruction::Sub {
+        rd: rd.0,
+        rs1: rs1.0,
+        rs2: rs2.0,
+    })
 }
 
-fn lui(e: Expansion, k: usize, rd: Register, imm: i32) -> Expansion
-    requires { k < longest }
-    ensures { result ≡ with_slot e k (Lui rd.0 imm) }
+fn lbu(rd: Register, rs1: Register, imm: i32) -> Slot
+    ensures { result.0 ≡ Lbu rd.0 rs1.0 imm }
 {
-    with(e, k, Instruction::Lui { rd: rd.0, imm })
+    Slot(Instruction::Lbu {
+        rd: rd.0,
+        rs1: rs1.0,
+        imm,
+    })
 }
 
-fn lbu(e: Expansion, k: usize, rd: Register, rs1: Register, imm: i32) -> Expansion
-    requires { k < longest }
-    ensures { result ≡ with_slot e k (Lbu rd.0 rs1.0 imm) }
+fn lw(rd: Register, rs1: Register, imm: i32) -> Slot
+    ensures { result.0 ≡ Lw rd.0 rs1.0 imm }
 {
-    with(
-        e,
-        k,
-        Instruction::Lbu {
-            rd: rd.0,
-            rs1: rs1.0,
-            imm,
-        },
-    )
+    Slot(Instruction::Lw {
+        rd: rd.0,
+        rs1: rs1.0,
+        imm,
+    })
 }
 
-fn lw(e: Expansion, k: usize, rd: Register, rs1: Register, imm: i32) -> Expansion
-    requires { k < longest }
-    ensures { result ≡ with_slot e k (Lw rd.0 rs1.0 imm) }
+fn sw(rs2: Register, rs1: Register, imm: i32) -> Slot
+    ensures { result.0 ≡ Sw rs2.0 rs1.0 imm }
 {
-    with(
-        e,
-        k,
-        Instruction::Lw {
-            rd: rd.0,
-            rs1: rs1.0,
-            imm,
-        },
-    )
+    Slot(Instruction::Sw {
+        rs2: rs2.0,
+        rs1: rs1.0,
+        imm,
+    })
 }
 
-fn sw(e: Expansion, k: usize, rs2: Register, rs1: Register, imm: i32) -> Expansion
-    requires { k < longest }
-    ensures { result ≡ with_slot e k (Sw rs2.0 rs1.0 imm) }
+fn beq(rs1: Register, rs2: Register, imm: i32) -> Slot
+    ensures { result.0 ≡ Beq rs1.0 rs2.0 imm }
 {
-    with(
-        e,
-        k,
-        Instruction::Sw {
-            rs2: rs2.0,
-            rs1: rs1.0,
-            imm,
-        },
-    )
+    Slot(Instruction::Beq {
+        rs1: rs1.0,
+        rs2: rs2.0,
+        imm,
+    })
 }
 
-fn beq(e: Expansion, k: usize, rs1: Register, rs2: Register, imm: i32) -> Expansion
-    requires { k < longest }
-    ensures { result ≡ with_slot e k (Beq rs1.0 rs2.0 imm) }
+fn lui(rd: Register, imm: i32) -> Slot
+    ensures { result.0 ≡ Lui rd.0 imm }
 {
-    with(
-        e,
-        k,
-        Instruction::Beq {
-            rs1: rs1.0,
-            rs2: rs2.0,
-            imm,
-        },
-    )
+    Slot(Instruction::Lui { rd: rd.0, imm })
 }
 
-fn jal(e: Expansion, k: usize, rd: Register, imm: i32) -> Expansion
-    requires { k < longest }
-    ensures { result ≡ with_slot e k (Jal rd.0 imm) }
+fn jal(rd: Register, imm: i32) -> Slot
+    ensures { result.0 ≡ Jal rd.0 imm }
 {
-    with(e, k, Instruction::Jal { rd: rd.0, imm })
+    Slot(Instruction::Jal { rd: rd.0, imm })
 }
 
-fn sub(e: Expansion, k: usize, rd: Register, rs1: Register, rs2: Register) -> Expansion
-    requires { k < longest }
-    ensures { result ≡ with_slot e k (Sub rd.0 rs1.0 rs2.0) }
+// The lui of b's upper part and the addi of its lower part.
+fn load_pair(rd: Register, b: u32) -> [Slot; 2]
+    ensures { map (λ s. s.0) result ≡ load_pair rd.0 b }
 {
-    with(
-        e,
-        k,
-        Instruction::Sub {
-            rd: rd.0,
-            rs1: rs1.0,
-            rs2: rs2.0,
-        },
-    )
-}
-
-// The lui of b's upper part in the kth slot and the addi of its lower part in the next.
-fn load_pair(mut e: Expansion, k: usize, rd: Register, b: u32) -> Expansion
-    requires { k + 1 < longest }
-    ensures { result ≡ with_slots e k (load_pair rd.0 b) }
-{
-    e = lui(e, k, rd, i32_of_bits(upper_part(b)));
-    addi(e, k + 1, rd, rd, i32_of_bits(lower_part(b)))
+    [
+        lui(rd, upper_part(b).cast_signed()),
+        addi(rd, rd, lower_part(b).cast_signed()),
+    ]
 }
 
 // A number by a single addi from x0. One that 12 signed bits do not hold has no word.
 pub fn load_single(rd: Register, v: i32) -> Expansion
-    ensures { instructions_in result ≡ load_single rd.0 v }
+    ensures { result ≡ load_single rd.0 v }
 {
-    addi(ecalls(1), 0, rd, Register::ZERO, v)
+    Expansion::of([addi(rd, Register::ZERO, v)])
 }
 
 // The pair alone: what leaves b in rd.
 pub fn load_word(rd: Register, b: u32) -> Expansion
-    ensures { instructions_in result ≡ load_pair rd.0 b }
+    ensures { result ≡ load_pair rd.0 b }
 {
-    load_pair(ecalls(2), 0, rd, b)
+    Expansion::of(load_pair(rd, b))
 }
 
 // A register onto the stack.
 pub fn push(rs: Register) -> Expansion
-    ensures { instructions_in result ≡ pushes rs.0 }
+    ensures { result ≡ pushes rs.0 }
 {
     let sp = Register::SP;
-    let mut e = ecalls(2);
-    e = addi(e, 0, sp, sp, -4);
-    sw(e, 1, rs, sp, 0)
+    Expansion::of([addi(sp, sp, -4), sw(rs, sp, 0)])
 }
 
 // A register from the stack.
 pub fn pop(rd: Register) -> Expansion
-    ensures { instructions_in result ≡ pops rd.0 }
+    ensures { result ≡ pops rd.0 }
 {
     let sp = Register::SP;
-    let mut e = ecalls(2);
-    e = lw(e, 0, rd, sp, 0);
-    addi(e, 1, sp, sp, 4)
+    Expansion::of([lw(rd, sp, 0), addi(sp, sp, 4)])
 }
 
 // a7 = 1000, a0 = rd, ecall.
 pub fn print(rd: Register) -> Expansion
-    ensures { instructions_in result ≡ prints rd.0 }
+    ensures { result ≡ prints rd.0 }
 {
-    let mut e = ecalls(3);
-    e = addi(e, 0, Register::A7, Register::ZERO, 1000);
-    addi(e, 1, Register::A0, rd, 0)
+    Expansion::of([
+        addi(Register::A7, Register::ZERO, 1000),
+        addi(Register::A0, rd, 0),
+        ECALL,
+    ])
 }
 
 // The string at address a, printed: its length is counted up to the byte 0, then it is written to standard output.
 pub fn print_str(a: u32) -> Expansion
-    ensures { instructions_in result ≡ prints_str a }
+    ensures { result ≡ prints_str a }
 {
     let zero = Register::ZERO;
     let t0 = Register::T0;
     let a1 = Register::A1;
     let a2 = Register::A2;
-    let mut e = ecalls(LONGEST);
-    e = load_pair(e, 0, a1, a);
-    e = addi(e, 2, a2, a1, 0);
-    e = lbu(e, 3, t0, a2, 0);
-    e = beq(e, 4, t0, zero, 12);
-    e = addi(e, 5, a2, a2, 1);
-    e = jal(e, 6, zero, -12);
-    e = sub(e, 7, a2, a2, a1);
-    e = addi(e, 8, Register::A0, zero, 1);
-    addi(e, 9, Register::A7, zero, 64)
+    let [upper, lower] = load_pair(a1, a);
+    Expansion::of([
+        upper,
+        lower,
+        addi(a2, a1, 0),
+        lbu(t0, a2, 0),
+        beq(t0, zero, 12),
+        addi(a2, a2, 1),
+        jal(zero, -12),
+        sub(a2, a2, a1),
+        addi(Register::A0, zero, 1),
+        addi(Register::A7, zero, 64),
+        ECALL,
+    ])
 }
 
 // Up to 256 bytes of standard input, to address a.
 pub fn read(a: u32) -> Expansion
-    ensures { instructions_in result ≡ reads a }
+    ensures { result ≡ reads a }
 {
     let zero = Register::ZERO;
-    let mut e = ecalls(6);
-    e = addi(e, 0, Register::A0, zero, 0);
-    e = load_pair(e, 1, Register::A1, a);
-    e = addi(e, 3, Register::A2, zero, 256);
-    addi(e, 4, Register::A7, zero, 63)
+    let [upper, lower] = load_pair(Register::A1, a);
+    Expansion::of([
+        addi(Register::A0, zero, 0),
+        upper,
+        lower,
+        addi(Register::A2, zero, 256),
+        addi(Register::A7, zero, 63),
+        ECALL,
+    ])
 }
 
 // a7 = 1010, a0 = a, ecall.
 pub fn read_byte(a: u32) -> Expansion
-    ensures { instructions_in result ≡ reads_byte a }
+    ensures { result ≡ reads_byte a }
 {
-    let mut e = ecalls(4);
-    e = addi(e, 0, Register::A7, Register::ZERO, 1010);
-    load_pair(e, 1, Register::A0, a)
+    let [upper, lower] = load_pair(Register::A0, a);
+    Expansion::of([
+        addi(Register::A7, Register::ZERO, 1010),
+        upper,
+        lower,
+        ECALL,
+    ])
 }
 
 // Four random bytes into a place on the stack, which is then loaded.
 pub fn random(rd: Register) -> Expansion
-    ensures { instructions_in result ≡ randoms rd.0 }
+    ensures { result ≡ randoms rd.0 }
 {
     let sp = Register::SP;
     let zero = Register::ZERO;
-    let mut e = ecalls(8);
-    e = addi(e, 0, sp, sp, -4);
-    e = addi(e, 1, Register::A7, zero, 278);
-    e = addi(e, 2, Register::A0, sp, 0);
-    e = addi(e, 3, Register::A1, zero, 4);
-    e = addi(e, 4, Register::A2, zero, 0);
-    e = lw(e, 6, rd, sp, 0);
-    addi(e, 7, sp, sp, 4)
+    Expansion::of([
+        addi(sp, sp, -4),
+        addi(Register::A7, zero, 278),
+        addi(Register::A0, sp, 0),
+        addi(Register::A1, zero, 4),
+        addi(Register::A2, zero, 0),
+        ECALL,
+        lw(rd, sp, 0),
+        addi(sp, sp, 4),
+    ])
 }
 
-fn slot_word(slot: Slot) -> Encoded
-    ensures { encoded_result result ≡ encoding slot.inst }
+// The words of the instructions, in order, into the start of what is lent: how many they are. They stop at the first that is refused.
+pub fn put_words(dst: &mut [u32], e: Expansion) -> Result<usize, EncodeError>
+    requires { length e ≤ length dst.old }
+    ensures { Puts dst (numbered result) (encoded e) }
 {
-    let inst = slot.inst;
-    encode(inst)
-}
-
-// The word of the kth instruction.
-fn word_at(e: Expansion, k: usize) -> Encoded
-    requires { k < longest }
-    ensures { encoded_result result ≡ encoding (slot_at e.slots k) }
-{
-    slot_word(e.slots[k])
-}
-
-// How many words were put, refusal 22 or refusal 23.
-#[derive(Clone, Copy)]
-pub enum Put {
-    Words(usize),
-    BadRegister,
-    BadField,
-}
-
-// The words of the instructions, in order, into the start of what is lent. They stop at the first that is refused.
-pub fn put_words(dst: &mut [u32], e: Expansion) -> Put
-    requires { (e.count ≤ longest) × (e.count ≤ length dst.old) }
-    ensures { Puts dst (put_result result) (encoded (instructions_in e)) }
-{
-    let count = e.count;
-    let mut k = 0;
-    while k < count {
-        match word_at(e, k) {
-            Encoded::Word(word) => {
-                dst[k] = word;
-                k += 1;
-            }
-            Encoded::BadRegister => {
-                return Put::BadRegister;
-            }
-            Encoded::BadField => {
-                return Put::BadField;
-            }
-        }
+    for k in 0..e.count {
+        let Slot(instruction) = e.slots[k];
+        dst[k] = encode(instruction)?;
     }
-    Put::Words(count)
+    Ok(e.count)
 }

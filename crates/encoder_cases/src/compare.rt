@@ -1,93 +1,76 @@
 // One line of the list against what the crate encoder answers.
-use crate::names::{
-    arithmetic, bitwise, branch, divide, immediate, load, multiply, shift, store, system, upper,
-};
-use numbers::digits::{Digits, Radix, parse_digits};
+use crate::answer::answers;
+use crate::names::{branch, immediate, register, shift, store, system, upper};
+use encoder::instruction::Instruction;
+use numbers::digits::{Radix, parse_digits};
 use numbers::imm::parse_imm;
-use numbers::ints::Imm;
-use numbers::text::same_bytes;
 use replay::field::{after_field, field};
 
 // A register's number, or a shift.
-#[derive(Clone, Copy)]
-enum Small {
-    Is(u8),
-    Nothing,
+fn byte(field: &[u8]) -> Option<u8> {
+    u8::try_from(parse_digits(field, Radix::Decimal, 255)?).ok()
 }
 
-fn byte(field: &[u8]) -> Small {
-    match parse_digits(field, Radix::Decimal, 255) {
-        Digits::Value(n) => Small::Is(n as u8),
-        Digits::Invalid => Small::Nothing,
-    }
-}
-
-fn registers_agree(name: &[u8], rd: u8, rs1: u8, rs2: u8, expected: &[u8]) -> bool {
-    arithmetic(name, rd, rs1, rs2, expected)
-        | bitwise(name, rd, rs1, rs2, expected)
-        | multiply(name, rd, rs1, rs2, expected)
-        | divide(name, rd, rs1, rs2, expected)
+fn is_zero(field: &[u8]) -> bool {
+    matches!(field, b"0")
 }
 
 // Three registers, or two and a shift.
-fn third_byte(name: &[u8], a: u8, b: u8, third: &[u8], expected: &[u8]) -> bool {
-    let Small::Is(c) = byte(third) else {
-        return false;
-    };
-    registers_agree(name, a, b, c, expected) | shift(name, a, b, c, expected)
+fn of_bytes(name: &[u8], first: &[u8], second: &[u8], third: &[u8]) -> Option<Instruction> {
+    let a = byte(first)?;
+    let b = byte(second)?;
+    let c = byte(third)?;
+    register(name, a, b, c).or(shift(name, a, b, c))
 }
 
 // Two registers and a number.
-fn third_number(name: &[u8], a: u8, b: u8, third: &[u8], expected: &[u8]) -> bool {
-    let Imm::Value(imm) = parse_imm(third) else {
-        return false;
-    };
-    immediate(name, a, b, imm, expected)
-        | load(name, a, b, imm, expected)
-        | store(name, a, b, imm, expected)
-        | branch(name, a, b, imm, expected)
-}
-
-fn second_byte(name: &[u8], a: u8, fields: &[u8]) -> bool {
-    let Small::Is(b) = byte(field(fields)) else {
-        return false;
-    };
-    let rest = after_field(fields);
-    let third = field(rest);
-    let expected = after_field(rest);
-    third_byte(name, a, b, third, expected) | third_number(name, a, b, third, expected)
+fn of_number(name: &[u8], first: &[u8], second: &[u8], third: &[u8]) -> Option<Instruction> {
+    let a = byte(first)?;
+    let b = byte(second)?;
+    let imm = parse_imm(third)?;
+    immediate(name, a, b, imm)
+        .or(store(name, a, b, imm))
+        .or(branch(name, a, b, imm))
 }
 
 // A register and a number; the third field is 0.
-fn second_number(name: &[u8], a: u8, fields: &[u8]) -> bool {
-    let Imm::Value(imm) = parse_imm(field(fields)) else {
-        return false;
-    };
-    let rest = after_field(fields);
-    upper(name, a, imm, after_field(rest)) & same_bytes(field(rest), b"0")
-}
-
-fn operands_agree(name: &[u8], fields: &[u8]) -> bool {
-    let Small::Is(a) = byte(field(fields)) else {
-        return false;
-    };
-    let rest = after_field(fields);
-    second_byte(name, a, rest) | second_number(name, a, rest)
+fn of_upper(name: &[u8], first: &[u8], second: &[u8], third: &[u8]) -> Option<Instruction> {
+    if !is_zero(third) {
+        return None;
+    }
+    let a = byte(first)?;
+    let imm = parse_imm(second)?;
+    upper(name, a, imm)
 }
 
 // No fields: all three are 0.
-fn system_agrees(name: &[u8], fields: &[u8]) -> bool {
-    let second = after_field(fields);
-    let third = after_field(second);
-    system(name, after_field(third))
-        & same_bytes(field(fields), b"0")
-        & same_bytes(field(second), b"0")
-        & same_bytes(field(third), b"0")
+fn of_system(name: &[u8], first: &[u8], second: &[u8], third: &[u8]) -> Option<Instruction> {
+    if is_zero(first) && is_zero(second) && is_zero(third) {
+        system(name)
+    } else {
+        None
+    }
 }
 
-// A line: a name, three fields and an answer. A name is in one group only.
+// The instruction of a name and three fields. A name is in one group only.
+fn instruction(name: &[u8], first: &[u8], second: &[u8], third: &[u8]) -> Option<Instruction> {
+    of_bytes(name, first, second, third)
+        .or(of_number(name, first, second, third))
+        .or(of_upper(name, first, second, third))
+        .or(of_system(name, first, second, third))
+}
+
+// A line: a name, three fields and an answer.
 pub fn agrees(line: &[u8]) -> bool {
-    let name = field(line);
-    let fields = after_field(line);
-    operands_agree(name, fields) | system_agrees(name, fields)
+    let from_first = after_field(line);
+    let from_second = after_field(from_first);
+    let from_third = after_field(from_second);
+    let expected = after_field(from_third);
+    instruction(
+        field(line),
+        field(from_first),
+        field(from_second),
+        field(from_third),
+    )
+    .is_some_and(|i| answers(i, expected))
 }

@@ -2,13 +2,16 @@
 use Prim.Native.Nat.{ℕ}
 use mathlib.Core.Path.{◌≡◌, refl}
 use mathlib.Core.List.{List}
-use Rattle.layout.specs.declared.assembler.Answer as answered
+use Rattle.std.proofs.Common.{Result, Ok, Err}
+use Rattle.layout.specs.declared.assembler.Counts as counted
+use Rattle.layout.specs.declared.refusal.RefusedAt.{RefusedAt}
 use Rattle.layout.specs.Limits.{Lent}
 use Rattle.layout.specs.Layouts.{Buffers}
 use Rattle.layout.specs.Calls.{Assembled}
 use Rattle.layout.specs.Code.Calls.{answer_in}
 use Rattle.jig.specs.Called.{Called, numbers_of, numbers_lent}
 
-pub called : (t : List ℕ) (base : ℕ) (k : Lent) (n : ℕ) (r : answered.Answer) (cs : List ℕ) (b : Buffers)
-    → Assembled t base k (answer_in r b) → cs ≡ numbers_lent n (numbers_of r) → Called t base k n r.number cs b
-called t base k n r cs b h e = record { answer = answer_in r b; assembled = h; number = refl; counts = e; buffers = refl }
+pub called : (t : List ℕ) (base : ℕ) (k : Lent) (n : ℕ) (r : Result counted.Counts RefusedAt) (cs : List ℕ) (b : Buffers)
+    → Assembled t base k (answer_in r b) → cs ≡ numbers_lent n (numbers_of r) → Called t base k n (answer_in r b).number cs b
+called t base k n (Ok c) cs b h e = record { answer = answer_in (Ok c) b; assembled = h; number = refl; counts = e; buffers = refl }
+called t base k n (Err r) cs b h e = record { answer = answer_in (Err r) b; assembled = h; number = refl; counts = e; buffers = refl }

@@ -1,9 +1,11 @@
 -- What a caller in C or Rust holds after the call. Document 01, "How much the layout promises".
 use Rattle.std.specs.Prelude.{ℕ, ◌≡◌, List, [], ◌∷◌, take}
-use Rattle.layout.specs.declared.assembler.Answer as answered
+use Rattle.std.specs.Prelude.{Result, Ok, Err}
+use Rattle.layout.specs.declared.assembler.Counts as counted
+use Rattle.layout.specs.declared.refusal.RefusedAt.{RefusedAt}
 use Rattle.layout.specs.Bytes.{padded}
 use Rattle.layout.specs.Limits.{Lent}
-use Rattle.layout.specs.Layouts.{Counts, Buffers, Answer}
+use Rattle.layout.specs.Layouts.{Counts, Buffers, Answer, no_counts}
 use Rattle.layout.specs.Calls.{Assembled}
 use Rattle.layout.specs.Code.Calls.{counts_in}
 
@@ -22,8 +24,9 @@ nine line c =
     ∷ []
 
 -- the same of the code's answer
-abbrev pub numbers_of : answered.Answer → List ℕ
-numbers_of a = nine a.line (counts_in a.counts)
+abbrev pub numbers_of : Result counted.Counts RefusedAt → List ℕ
+numbers_of (Ok c) = nine 0 (counts_in c)
+numbers_of (Err r) = nine r.line no_counts
 
 -- n numbers: as many of xs as there is room for, and zeros after them
 abbrev pub numbers_lent : ℕ → List ℕ → List ℕ

@@ -1,40 +1,40 @@
 // The layout for callers in C and Rust: the one call, and its answer as numbers.
 #![tactic(auto)]
 
-ghost use Rattle.std.specs.Prelude.{◌≡◌, length, get_or};
+ghost use Rattle.std.specs.Prelude.{◌≡◌, length};
 ghost use Rattle.layout.specs.Code.Calls.{buffers_now, lengths};
 ghost use Rattle.jig.specs.Called.{Called, numbers_of, numbers_lent};
 
-use layout::assembler::{Answer, assemble};
+use layout::assembler::{Counts, assemble};
+use layout::refusal::RefusedAt;
 
-// The ith of an answer's nine numbers; after them zeros.
-fn number_at(a: Answer, i: usize) -> u64
-    ensures { result ≡ get_or (numbers_of a) i 0 }
+// An answer's nine numbers: a refusal's line, or what is counted of an accepted layout.
+fn numbers_of(laid: Result<Counts, RefusedAt>) -> [u64; 9]
+    ensures { result ≡ numbers_of laid }
 {
-    let c = a.counts;
-    match i {
-        0 => a.line as u64,
-        1 => c.words as u64,
-        2 => c.data_bytes as u64,
-        3 => c.data_base as u64,
-        4 => c.bss_size as u64,
-        5 => c.labels as u64,
-        6 => c.equates as u64,
-        7 => c.items as u64,
-        8 => c.evaluations as u64,
-        _ => 0,
+    match laid {
+        Ok(c) => [
+            0,
+            c.words as u64,
+            c.data_bytes as u64,
+            c.data_base as u64,
+            c.bss_size as u64,
+            c.labels as u64,
+            c.equates as u64,
+            c.items as u64,
+            c.evaluations as u64,
+        ],
+        Err(refused) => [refused.line as u64, 0, 0, 0, 0, 0, 0, 0, 0],
     }
 }
 
 // As many of the nine numbers as there is room for, and zeros in the room after them.
-fn put_numbers(counts: &mut [u64], a: Answer)
-    ensures { counts.new ≡ numbers_lent (length counts.old) (numbers_of a) }
+fn put_numbers(counts: &mut [u64], numbers: &[u64; 9])
+    ensures { counts.new ≡ numbers_lent (length counts.old) numbers.now }
 {
-    let mut i = 0;
-    while i < counts.len() {
-        counts[i] = number_at(a, i);
-        i += 1;
-    }
+    counts.fill(0);
+    let n = counts.len().min(numbers.len());
+    counts[..n].copy_from_slice(&numbers[..n]);
 }
 
 // A source at a base, laid out into the buffers that are lent, whatever they held and however long they are. The result is 0: accepted; else the
@@ -55,7 +55,10 @@ pub fn kodhlace_assemble(
         (length counts.old) result counts.new
         (buffers_now words.new data_bytes.new labels.new equates.new items.new) }
 {
-    let answer = assemble(text, base, words, data_bytes, labels, equates, items);
-    put_numbers(counts, answer);
-    answer.number as u32
+    let laid = assemble(text, base, words, data_bytes, labels, equates, items);
+    put_numbers(counts, &numbers_of(laid));
+    match laid {
+        Ok(_) => 0,
+        Err(refused) => refused.refusal.number() as u32,
+    }
 }

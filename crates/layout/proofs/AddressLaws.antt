@@ -5,7 +5,8 @@ use native.Mathlib.Omega.{arith}
 use mathlib.Core.Path.{◌≡◌, refl, sym, ap, ◌∙◌}
 use mathlib.Core.List.{List, [], ◌∷◌, map, map-map}
 use mathlib.Core.Bool.{true, false}
-use mathlib.Core.Option.{none, some}
+use Rattle.std.proofs.Common.{Option, None, Some}
+use Rattle.std.specs.Option.{is_some}
 use lib.ListN.{length, get_or, set, length-map, get_or-map}
 use Rattle.layout.specs.declared.records.LabelRecord.{LabelRecord}
 use Rattle.layout.specs.declared.addresses.Starts.{Starts}
@@ -38,11 +39,6 @@ abbrev pub start_of : Starts → ℕ → ℕ
 start_of s zero = s.text
 start_of s (suc zero) = s.«data»
 start_of s (suc (suc n)) = s.bss
-
-pub start_third : (s : Starts) (n : ℕ) → (n ≡ 0 → ⊥) → (n ≡ 1 → ⊥) → start_of s n ≡ s.bss
-start_third s zero f g = absurd (f refl)
-start_third s (suc zero) f g = absurd (g refl)
-start_third s (suc (suc n)) f g = refl
 
 module _ {s : Starts} {code : ℕ} (p : PlaceCoded s code) where
   pub coded_address : start_of s (code / 0x1000000) + code % 0x1000000 ≡ address_at p.base p.state p.place
@@ -199,26 +195,30 @@ module _ {t : List ℕ} {base : ℕ} {σ : State} {count : ℕ} {b : LabelStore}
       table_indexed p.table b.index (rw names p.indexed) (rw names p.distinct)
 
   module _ (n : List ℕ) where
-    module _ (j : ℕ) (e : some j ≡ lookup_in n 0 (label_names t b.records 0 count)) where
+    module _ (j : ℕ) (e : Some j ≡ lookup_in n 0 (label_names t b.records 0 count)) where
       known : LabelKnown (named n) σ.labels j
-      known = look_known (named n) σ.labels j (searched n σ.labels placed_names (some j) e)
+      known = look_known (named n) σ.labels j (searched n σ.labels placed_names (Some j) e)
 
       pub found_label : true ≡ is_label n σ.labels
       found_label = sym known.known
 
-      pub found_address : some (label_record_at b.records j).address ≡ label_address base σ n
+      pub found_address : Some (label_record_at b.records j).address ≡ label_address base σ n
       found_address =
           let below : j < count = rw (p.table.counted, length-map σ.labels (placed base σ)) known.below in
-          ap (λ (x : LabelRecord). some x.address) (label_back p.table (placed base σ (named n)) j below)
-          ∙ ap (λ (x : LabelAt). some x.address) (get_or-map (placed base σ) σ.labels j (named n))
+          ap (λ (x : LabelRecord). Some x.address) (label_back p.table (placed base σ (named n)) j below)
+          ∙ ap (λ (x : LabelAt). Some x.address) (get_or-map (placed base σ) σ.labels j (named n))
           ∙ sym (known.address base σ)
 
-    module _ (e : none ≡ lookup_in n 0 (label_names t b.records 0 count)) where
+    module _ (e : None ≡ lookup_in n 0 (label_names t b.records 0 count)) where
       new : New (named n) σ.labels
-      new = look_new (named n) σ.labels 0 (searched n σ.labels placed_names none e)
+      new = look_new (named n) σ.labels 0 (searched n σ.labels placed_names None e)
 
       pub no_label : false ≡ is_label n σ.labels
       no_label = sym new.unknown
 
-      pub no_address : none ≡ label_address base σ n
+      pub no_address : None ≡ label_address base σ n
       no_address = sym (new.nowhere base σ)
+
+    pub whether_label : (r : Option ℕ) → r ≡ lookup_in n 0 (label_names t b.records 0 count) → is_some r ≡ is_label n σ.labels
+    whether_label (Some j) e = found_label j e
+    whether_label None e = no_label e

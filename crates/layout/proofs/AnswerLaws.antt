@@ -4,14 +4,15 @@ use Prim.Native.Nat.{ℕ, zero, suc, ◌+◌, ◌≤◌, ◌<◌}
 use mathlib.Core.Path.{◌≡◌, refl, ap}
 use mathlib.Core.List.{List, [], ◌∷◌, ◌++◌}
 use mathlib.Core.Bool.{Bool, true, false, cond}
-use mathlib.Core.Option.{Option, none, some}
+use Rattle.std.proofs.Common.{Option, None, Some}
 use native.Mathlib.Nat.{zero-add}
 use native.Mathlib.Omega.{arith}
 use lib.Dec.{ltb, eqb}
 use lib.IntN.{ℤ}
 use lib.ListN.{length}
 use borrow.Author.Tests.{ltb-true}
-use Rattle.numbers.specs.Results.{Result, value, refused, and_then}
+use Rattle.std.proofs.Common.{Result, Ok, Err}
+use Rattle.numbers.specs.Results.{and_then}
 use Rattle.numbers.specs.Operands.{cons_first}
 use Rattle.layout.specs.Refusals.{Refusal, at_line, is_in, call_numbers, byte_numbers, line_numbers, label_word_numbers, turn_numbers, round_numbers}
 use Rattle.layout.specs.Refusals.{pseudo_numbers, text_numbers}
@@ -34,7 +35,7 @@ use Rattle.layout.proofs.ChainLaws.{among_at, first_left}
 use Rattle.layout.proofs.ResolveLaws.{turn_numbered, RoundsRefused, by_turn, by_end, all_end}
 
 -- a stage says one of these numbers, at one of the first m lines
-abbrev pub Says : {A : Type 0} → List ℕ → ℕ → Result Refusal A → Type 0
+abbrev pub Says : {A : Type 0} → List ℕ → ℕ → Result A Refusal → Type 0
 Says ns m x = Comes (λ _. Unit) (Said ns m) x
 
 -- ---- "1 byte above 127"
@@ -59,7 +60,7 @@ check_from line (b ∷ bs) = by (ltb 127 b) (eqb b 10) (more_lines b bs) (λ l. 
 
     by : (c d : Bool) → (0 < n) × (cond d 1 0 + length (lines bs) ≤ n) → ((l : ℕ) → Says byte_numbers (l + length (lines bs)) (check_bytes l bs))
         → Says {A = Unit} byte_numbers (line + n)
-        (elim c [ true ↦ refused (record { number = 1; line = line }) | false ↦ check_bytes (cond d (suc line) line) bs ])
+        (elim c [ true ↦ Err (record { number = 1; line = line }) | false ↦ check_bytes (cond d (suc line) line) bs ])
     by true d h more = (refl, omega (arith, h.0))
     by false d h more =
         let l = cond d (suc line) line in
@@ -86,8 +87,8 @@ fill-says look m (w ∷ ws) bytes h =
     (by (look w.name)) (λ bs u. fill-says look m ws bs h.1)
   where
     by : (o : Option ℕ) → Says label_word_numbers m (at_line w.line (fill_one o w bytes))
-    by none = (refl, h.0)
-    by (some a) = tt
+    by None = (refl, h.0)
+    by (Some a) = tt
 
 -- ---- "equates by round"
 
@@ -137,14 +138,14 @@ module _ (t : List ℕ) where
   abbrev NumberedAt : Refusal → Type 0
   NumberedAt r = Numbered t r.number r.line
 
-  abbrev Answers : {A : Type 0} → Result Refusal A → Type 0
+  abbrev Answers : {A : Type 0} → Result A Refusal → Type 0
   Answers x = Comes (λ _. Unit) NumberedAt x
 
   -- a stage whose numbers are among the text's, and what comes after it
-  stage : {A B : Type 0} (P : A → Type 0) (ns : List ℕ) → all_of (is_in text_numbers) ns ≡ true → (x : Result Refusal A) (f : A → Result Refusal B)
+  stage : {A B : Type 0} (P : A → Type 0) (ns : List ℕ) → all_of (is_in text_numbers) ns ≡ true → (x : Result A Refusal) (f : A → Result B Refusal)
       → Comes P (Said ns (length (lines t))) x → ((a : A) → P a → Answers (f a)) → Answers (and_then x f)
-  stage P ns h (value a) f g more = more a g
-  stage P ns h (refused r) f g more = of_line (in_all (is_in text_numbers) ns h r.number g.0) g.1
+  stage P ns h (Ok a) f g more = more a g
+  stage P ns h (Err r) f g more = of_line (in_all (is_in text_numbers) ns h r.number g.0) g.1
 
   after_lines_say : (base : ℕ) (σ : State) → Laid (length (lines t)) σ → Answers (after_lines base σ)
   unfolding after_lines
@@ -162,7 +163,7 @@ module _ (t : List ℕ) where
   unfolding layout_of
   layout-says base k = by (ltb base_limit base) (ltb text_limit (length t))
     where
-      read : Result Refusal State
+      read : Result State Refusal
       read = line_stage (room_of k) 0 (line_pieces 0 (lines t)) start
 
       by : (c d : Bool)
@@ -174,7 +175,7 @@ module _ (t : List ℕ) where
           stage (Laid (length (lines t))) line_numbers refl read (after_lines base) (stage_laid t (room_of k)) (after_lines_say base))
 
 -- no refusal's number is 0, which says accepted
-pub refusal_numbered : (t : List ℕ) (base : ℕ) (k : Lent) (r : Refusal) → layout_of t base k ≡ refused r → 0 < r.number
+pub refusal_numbered : (t : List ℕ) (base : ℕ) (k : Lent) (r : Refusal) → layout_of t base k ≡ Err r → 0 < r.number
 refusal_numbered t base k r e = by (rw e at (layout-says t base k))
   where
     by : Numbered t r.number r.line → 0 < r.number
@@ -202,6 +203,6 @@ whole-list = (refl, refl)
 pub always_answered : (t : List ℕ) (base : ℕ) (k : Lent) → Answered t k (call_of t base k)
 always_answered t base k = by (layout_of t base k) (layout-says t base k)
   where
-    by : (o : Result Refusal Layout) → Comes (λ _. Unit) (λ r. Numbered t r.number r.line) o → Answered t k (answer_of k o)
-    by (value l) u = accepts refl refl
-    by (refused r) h = refuses h refl refl
+    by : (o : Result Layout Refusal) → Comes (λ _. Unit) (λ r. Numbered t r.number r.line) o → Answered t k (answer_of k o)
+    by (Ok l) u = accepts refl refl
+    by (Err r) h = refuses h refl refl

@@ -1,16 +1,18 @@
 -- The whole call: each stage gets what it asks from the one before it, and their answers together are the definition's.
+use Rattle.layout.specs.Code.Numbers.{refusal_number}
+use Rattle.layout.specs.declared.refusal.RefusedAt.{RefusedAt}
 use Prim.Native.Nat.{ℕ, ◌*◌, ◌≤◌, ◌<◌}
 use native.Mathlib.Omega.{arith}
 use mathlib.Core.Path.{◌≡◌, refl, sym, ap, subst, ◌∙◌}
 use mathlib.Core.List.{List, [], ◌∷◌, ◌++◌, map, append-nil}
-use mathlib.Core.Option.{Option, none, some}
+use Rattle.std.proofs.Common.{Option, None, Some}
 use lib.ListN.{length, drop, replicate, length-replicate, drop_of_length-le}
-use Rattle.numbers.specs.Results.{Result, value, refused, and_then}
+use Rattle.std.proofs.Common.{Result, Ok, Err}
+use Rattle.numbers.specs.Results.{and_then}
 use Rattle.layout.specs.declared.limits.Room.{Room}
 use Rattle.layout.specs.declared.state.Counters.{Counters}
 use Rattle.layout.specs.declared.addresses.Starts.{Starts}
 use Rattle.layout.specs.declared.assembler.Counts as counted
-use Rattle.layout.specs.declared.assembler.Answer as answered
 use Rattle.layout.specs.Refusals.{Refusal}
 use Rattle.layout.specs.Bytes.{padded, together}
 use Rattle.layout.specs.Limits.{base_limit, text_limit, data_limit, label_size, Lent, room_of}
@@ -31,7 +33,7 @@ use Rattle.layout.specs.Code.Names.{Scope, known_fields}
 use Rattle.layout.specs.Code.Orders.{LabelTable}
 use Rattle.layout.specs.Code.Symbols.{SymbolsStand, Symbols, symbols_of, SymbolsLeft}
 use Rattle.layout.specs.Code.Emits.{Unemitted, emitted_in, EmitLeft}
-use Rattle.layout.specs.Code.Calls.{buffers, lengths, answer_in, refused_answer, LaidLeft, lines_of, LinesRead, ResolvedRead}
+use Rattle.layout.specs.Code.Calls.{buffers, lengths, answer_in, LaidLeft, lines_of, LinesRead, ResolvedRead}
 use Rattle.layout.specs.Calls.{Answered, Assembled}
 use Rattle.numbers.proofs.Bools.{none-some}
 use Rattle.layout.proofs.Gives.{Comes}
@@ -54,11 +56,11 @@ unfolding found_equates
 found_each [] g = refl
 found_each (x ∷ xs) g = by x.found g.0.1 (found_each xs g.1)
   where
-    by : (o : Option Found) → o ≡ some g.0.0 → map (λ y. field_bytes (known_fields y)) xs ≡ map (λ y. field_bytes (equate_row y)) (found_equates xs)
+    by : (o : Option Found) → o ≡ Some g.0.0 → map (λ y. field_bytes (known_fields y)) xs ≡ map (λ y. field_bytes (equate_row y)) (found_equates xs)
         → field_bytes (known_fields (record { equate = x.equate; found = o })) ∷ map (λ y. field_bytes (known_fields y)) xs
         ≡ map (λ y. field_bytes (equate_row y)) (cons_found x o (found_equates xs))
-    by none p h = absurd (none-some p)
-    by (some f) p h = ap (λ (bs : List (List ℕ)). field_bytes (known_fields (record { equate = x.equate; found = some f })) ∷ bs) h
+    by None p h = absurd (none-some p)
+    by (Some f) p h = ap (λ (bs : List (List ℕ)). field_bytes (known_fields (record { equate = x.equate; found = Some f })) ∷ bs) h
 
 -- the table of what is known of them is the table of their records
 found_rows : (n : ℕ) (ks : List Known) → Each IsFound ks → table_of n known_fields ks ≡ table_of n equate_row (found_equates ks)
@@ -67,20 +69,20 @@ found_rows n ks all = ap (λ (bs : List (List ℕ)). padded n (together bs)) (fo
 -- ---- after the lines
 
 -- what follows the symbols
-abbrev emitting : ℕ → State → Symbols → Result Refusal Layout
+abbrev emitting : ℕ → State → Symbols → Result Layout Refusal
 emitting base σ y =
-    and_then (emit base (constant y.turns.known) (label_address base σ) σ.rest.own.items.list [] []) (λ z. value (layout base σ y.bytes y.turns z))
+    and_then (emit base (constant y.turns.known) (label_address base σ) σ.rest.own.items.list [] []) (λ z. Ok (layout base σ y.bytes y.turns z))
 
 after_symbols : (base : ℕ) (σ : State) → after_lines base σ ≡ and_then (symbols_of base σ) (emitting base σ)
 unfolding after_lines
 after_symbols base σ = by (fill (label_address base σ) σ.rest.own.stored.label_words σ.rest.own.stored.bytes) (resolve base σ σ.rest.equates)
   where
-    by : (f : Result Refusal (List ℕ)) (g : Result Refusal Turns)
+    by : (f : Result (List ℕ) Refusal) (g : Result Turns Refusal)
         → and_then f (λ bytes. and_then g (λ x. emitting base σ (record { bytes = bytes; turns = x })))
-        ≡ and_then (and_then f (λ bytes. and_then g (λ x. value (record { bytes = bytes; turns = x })))) (emitting base σ)
-    by (refused r) g = refl
-    by (value bytes) (refused r) = refl
-    by (value bytes) (value x) = refl
+        ≡ and_then (and_then f (λ bytes. and_then g (λ x. Ok (record { bytes = bytes; turns = x })))) (emitting base σ)
+    by (Err r) g = refl
+    by (Ok bytes) (Err r) = refl
+    by (Ok bytes) (Ok x) = refl
 
 module _ {t : List ℕ} {base : ℕ} {st : Counters} {l n e x i d lw w : List ℕ} (s : LinesRead t base st l n e x i d lw w) where
   abbrev σ : State
@@ -111,18 +113,18 @@ module _ {t : List ℕ} {base : ℕ} {st : Counters} {l n e x i d lw w : List �
   order_room = omega (arith, s.stands.labels.counted, s.stands.labels.fits.few, s.stands.labels.limit, s.stands.rest.own.stored.label_words.room)
 
   module _ (l' e' ix d' : List ℕ) where
-    pub symbols_stop : (r : Refusal) → Agrees (SymbolsLeft t base σ st l' n e' ix d') (refused r) (symbols_of base σ)
-        → (b : Buffers) → Agrees (LaidLeft b) (refused r) (after_lines base σ)
+    pub symbols_stop : (r : Refusal) → Agrees (SymbolsLeft t base σ st l' n e' ix d') (Err r) (symbols_of base σ)
+        → (b : Buffers) → Agrees (LaidLeft b) (Err r) (after_lines base σ)
     symbols_stop r a b =
-        rw (after_symbols base σ) (then_stop (SymbolsLeft t base σ st l' n e' ix d') (LaidLeft b) (refused r) (symbols_of base σ) (emitting base σ) r refl a)
+        rw (after_symbols base σ) (then_stop (SymbolsLeft t base σ st l' n e' ix d') (LaidLeft b) (Err r) (symbols_of base σ) (emitting base σ) r refl a)
 
     -- what was found
-    pub symbols_found : (m : ℕ) → Agrees (SymbolsLeft t base σ st l' n e' ix d') (value m) (symbols_of base σ)
+    pub symbols_found : (m : ℕ) → Agrees (SymbolsLeft t base σ st l' n e' ix d') (Ok m) (symbols_of base σ)
         → Agreed (SymbolsLeft t base σ st l' n e' ix d') m (symbols_of base σ)
     symbols_found m a = agreed (SymbolsLeft t base σ st l' n e' ix d') m (symbols_of base σ) a
 
     -- what follows asks for all that was left
-    abbrev pub resolved_read : (m : ℕ) → Agrees (SymbolsLeft t base σ st l' n e' ix d') (value m) (symbols_of base σ)
+    abbrev pub resolved_read : (m : ℕ) → Agrees (SymbolsLeft t base σ st l' n e' ix d') (Ok m) (symbols_of base σ)
         → ResolvedRead t base st m l' n e' ix i lw w
     resolved_read m a =
         record {
@@ -158,21 +160,21 @@ module _ {t : List ℕ} {base : ℕ} {st : Counters} {l n e x i d lw w : List �
         }
 
     after_is : after_lines base σ ≡ emitting base σ y.it
-    after_is = after_symbols base σ ∙ ap (λ (o : Result Refusal Symbols). and_then o (emitting base σ)) y.is
+    after_is = after_symbols base σ ∙ ap (λ (o : Result Symbols Refusal). and_then o (emitting base σ)) y.is
 
-    pub emit-stop : (i' w' : List ℕ) (r : Refusal) → Agrees (EmitLeft i' w') (refused r) (emitted_in scope) → (b : Buffers)
-        → Agrees (LaidLeft b) (refused r) (after_lines base σ)
-    emit-stop i' w' r a b = rw after_is (then_stop (EmitLeft i' w') (LaidLeft b) (refused r) (emitted_in scope) _ r refl a)
+    pub emit-stop : (i' w' : List ℕ) (r : Refusal) → Agrees (EmitLeft i' w') (Err r) (emitted_in scope) → (b : Buffers)
+        → Agrees (LaidLeft b) (Err r) (after_lines base σ)
+    emit-stop i' w' r a b = rw after_is (then_stop (EmitLeft i' w') (LaidLeft b) (Err r) (emitted_in scope) _ r refl a)
 
     all_found : AllFound (turn base σ) σ.rest.equates y.it.turns.known y.it.turns.evaluations
     all_found = by (fill (label_address base σ) σ.rest.own.stored.label_words σ.rest.own.stored.bytes) (resolve base σ σ.rest.equates) (all_end base σ σ.rest.equates) y.is
       where
-        by : (f : Result Refusal (List ℕ)) (g : Result Refusal Turns) → Comes (λ z. AllFound (turn base σ) σ.rest.equates z.known z.evaluations) (RoundsRefused base σ σ.rest.equates) g
-            → and_then f (λ bytes. and_then g (λ z. value (record { bytes = bytes; turns = z }))) ≡ value y.it
+        by : (f : Result (List ℕ) Refusal) (g : Result Turns Refusal) → Comes (λ z. AllFound (turn base σ) σ.rest.equates z.known z.evaluations) (RoundsRefused base σ σ.rest.equates) g
+            → and_then f (λ bytes. and_then g (λ z. Ok (record { bytes = bytes; turns = z }))) ≡ Ok y.it
             → AllFound (turn base σ) σ.rest.equates y.it.turns.known y.it.turns.evaluations
-        by (refused r) g c q = absurd (refused-value q)
-        by (value bytes) (refused r) c q = absurd (refused-value q)
-        by (value bytes) (value z) c q = rw (ap (λ (o : Symbols). o.turns) (value_same q)) at c
+        by (Err r) g c q = absurd (refused-value q)
+        by (Ok bytes) (Err r) c q = absurd (refused-value q)
+        by (Ok bytes) (Ok z) c q = rw (ap (λ (o : Symbols). o.turns) (value_same q)) at c
 
     data_size : length y.it.bytes ≡ st.rest.own.stored.bytes
     data_size =
@@ -180,12 +182,12 @@ module _ {t : List ℕ} {base : ℕ} {st : Counters} {l n e x i d lw w : List �
         (fill_fits t (label_address base σ) σ.rest.own.stored.label_words (length σ.rest.own.stored.bytes) σ.rest.own.stored.bytes refl s.stands.rest.own.stored.fits.each)
         y.is ∙ sym s.stands.rest.own.stored.counted
       where
-        by : (f : Result Refusal (List ℕ)) (g : Result Refusal Turns) → Comes (λ bs. length bs ≡ length σ.rest.own.stored.bytes) (InText t) f
-            → and_then f (λ bytes. and_then g (λ z. value (record { bytes = bytes; turns = z }))) ≡ value y.it
+        by : (f : Result (List ℕ) Refusal) (g : Result Turns Refusal) → Comes (λ bs. length bs ≡ length σ.rest.own.stored.bytes) (InText t) f
+            → and_then f (λ bytes. and_then g (λ z. Ok (record { bytes = bytes; turns = z }))) ≡ Ok y.it
             → length y.it.bytes ≡ length σ.rest.own.stored.bytes
-        by (refused r) g c q = absurd (refused-value q)
-        by (value bytes) (refused r) c q = absurd (refused-value q)
-        by (value bytes) (value z) c q = ap (λ (o : Symbols). length o.bytes) (sym (value_same q)) ∙ c
+        by (Err r) g c q = absurd (refused-value q)
+        by (Ok bytes) (Err r) c q = absurd (refused-value q)
+        by (Ok bytes) (Ok z) c q = ap (λ (o : Symbols). length o.bytes) (sym (value_same q)) ∙ c
 
     module _ (i' w' l'' : List ℕ) (count : ℕ) (ordering : LabelTable t l'' st.labels (ordered (map (placed base σ) σ.labels))) where
       abbrev counts : counted.Counts
@@ -228,16 +230,16 @@ module _ {t : List ℕ} {base : ℕ} {st : Counters} {l n e x i d lw w : List �
             };
           }
 
-      pub emit_go : Agrees (EmitLeft i' w') (value count) (emitted_in scope) → Agrees (LaidLeft (buffers w' d' l'' e' i')) (value counts) (after_lines base σ)
+      pub emit_go : Agrees (EmitLeft i' w') (Ok count) (emitted_in scope) → Agrees (LaidLeft (buffers w' d' l'' e' i')) (Ok counts) (after_lines base σ)
       emit_go a =
           rw after_is
           (by (emitted_in scope)
           (emit_fits t base s.base_limit (constant y.it.turns.known) (label_address base σ) σ.rest.own.items.words σ.rest.own.items.list [] [] s.stands.rest.own.items.fits.consecutive s.stands.rest.own.items.fits.each tt tt) a)
         where
-          by : (o : Result Refusal Emitted) → Comes (EmitsFit t σ.rest.own.items.words σ.rest.own.items.list []) (InText t) o → Agrees (EmitLeft i' w') (value count) o
-              → Agrees (LaidLeft (buffers w' d' l'' e' i')) (value counts) (and_then o (λ z. value (layout base σ y.it.bytes y.it.turns z)))
-          by (value z) f q = laid_left z q (omega (arith, f.count))
-          by (refused z) f q = absurd q
+          by : (o : Result Emitted Refusal) → Comes (EmitsFit t σ.rest.own.items.words σ.rest.own.items.list []) (InText t) o → Agrees (EmitLeft i' w') (Ok count) o
+              → Agrees (LaidLeft (buffers w' d' l'' e' i')) (Ok counts) (and_then o (λ z. Ok (layout base σ y.it.bytes y.it.turns z)))
+          by (Ok z) f q = laid_left z q (omega (arith, f.count))
+          by (Err z) f q = absurd q
 
 -- ---- the lines
 
@@ -258,39 +260,39 @@ room_words k lent e = rw e (omega arith)
 
 module _ (t : List ℕ) (k : Room) (base : ℕ) where
   -- lines that go through leave what follows them
-  pub record Read (st : Counters) (l n e x i d lw w : List ℕ) (a : Result Refusal State) : Type 0 where
+  pub record Read (st : Counters) (l n e x i d lw w : List ℕ) (a : Result State Refusal) : Type 0 where
     pub read : LinesRead t base st l n e x i d lw w
-    pub are : a ≡ value read.state
+    pub are : a ≡ Ok read.state
 
   pub lines-read : (st : Counters) (l n e x i d lw w : List ℕ) → length t ≤ text_limit → base ≤ base_limit → w ≡ replicate (length w) 0 → k.words ≤ length w
-      → (a : Result Refusal State) → Agrees (λ c. Stands t k c (store l n e x i d lw)) (value st) a → Read st l n e x i d lw w a
-  lines-read st l n e x i d lw w short low zeros room (refused r) s = absurd s
-  lines-read st l n e x i d lw w short low zeros room (value σ) s =
+      → (a : Result State Refusal) → Agrees (λ c. Stands t k c (store l n e x i d lw)) (Ok st) a → Read st l n e x i d lw w a
+  lines-read st l n e x i d lw w short low zeros room (Err r) s = absurd s
+  lines-read st l n e x i d lw w short low zeros room (Ok σ) s =
       record { read = record { room = k; state = σ; text = short; base_limit = low; stands = s; zeros = zeros; lent = room }; are = refl }
 
 module _ (t : List ℕ) (base : ℕ) (lent : Lent) (k : Room) (same : k ≡ room_of lent) where
-  abbrev stage_of_lem : Result Refusal State
+  abbrev stage_of_lem : Result State Refusal
   stage_of_lem = line_stage k 0 (line_pieces 0 (lines t)) start
 
-  pub lines_go : (σ : State) → stage_of_lem ≡ value σ → (b : Buffers) (r : Result Refusal counted.Counts) → Agrees (LaidLeft b) r (after_lines base σ)
+  pub lines_go : (σ : State) → stage_of_lem ≡ Ok σ → (b : Buffers) (r : Result counted.Counts Refusal) → Agrees (LaidLeft b) r (after_lines base σ)
       → Agrees (LaidLeft b) r (lines_of t base lent)
   lines_go σ q b r a =
-      subst (Agrees (LaidLeft b) r) (sym (ap (λ (z : Room). and_then (line_stage z 0 (line_pieces 0 (lines t)) start) (after_lines base)) (sym same) ∙ ap (λ (o : Result Refusal State). and_then o (after_lines base)) q)) a
+      subst (Agrees (LaidLeft b) r) (sym (ap (λ (z : Room). and_then (line_stage z 0 (line_pieces 0 (lines t)) start) (after_lines base)) (sym same) ∙ ap (λ (o : Result State Refusal). and_then o (after_lines base)) q)) a
 
-  pub lines-stop : (s : Store) (r : Refusal) → Agrees (λ c. Stands t k c s) (refused r) stage_of_lem → (b : Buffers) → Agrees (LaidLeft b) (refused r) (lines_of t base lent)
+  pub lines-stop : (s : Store) (r : Refusal) → Agrees (λ c. Stands t k c s) (Err r) stage_of_lem → (b : Buffers) → Agrees (LaidLeft b) (Err r) (lines_of t base lent)
   lines-stop s r a b =
-      subst (Agrees (LaidLeft b) (refused r)) (ap (λ (z : Room). and_then (line_stage z 0 (line_pieces 0 (lines t)) start) (after_lines base)) same)
-      (then_stop (λ c. Stands t k c s) (LaidLeft b) (refused r) stage_of_lem (after_lines base) r refl a)
+      subst (Agrees (LaidLeft b) (Err r)) (ap (λ (z : Room). and_then (line_stage z 0 (line_pieces 0 (lines t)) start) (after_lines base)) same)
+      (then_stop (λ c. Stands t k c s) (LaidLeft b) (Err r) stage_of_lem (after_lines base) r refl a)
 
 -- ---- before the lines
 
 module _ (t : List ℕ) (base : ℕ) (k : Lent) (b : Buffers) where
-  pub base_stop : base_limit < base → Agrees (LaidLeft b) (refused (record { number = 40; line = 0 })) (layout_of t base k)
+  pub base_stop : base_limit < base → Agrees (LaidLeft b) (Err (record { number = 40; line = 0 })) (layout_of t base k)
   unfolding layout_of
   base_stop h = rw (lt-ltb base_limit base h) refl
 
   module _ (low : base ≤ base_limit) where
-    pub text-stop : text_limit < length t → Agrees (LaidLeft b) (refused (record { number = 41; line = 0 })) (layout_of t base k)
+    pub text-stop : text_limit < length t → Agrees (LaidLeft b) (Err (record { number = 41; line = 0 })) (layout_of t base k)
     unfolding layout_of
     text-stop h = rw (le-ltb base_limit base low, lt-ltb text_limit (length t) h) refl
 
@@ -299,10 +301,10 @@ module _ (t : List ℕ) (base : ℕ) (k : Lent) (b : Buffers) where
       unfolding layout_of
       checked = rw (le-ltb base_limit base low, le-ltb text_limit (length t) short) refl
 
-      pub bytes-stop : (r : Refusal) → refused r ≡ check_bytes 0 t → Agrees (LaidLeft b) (refused r) (layout_of t base k)
+      pub bytes-stop : (r : Refusal) → Err r ≡ check_bytes 0 t → Agrees (LaidLeft b) (Err r) (layout_of t base k)
       bytes-stop r a = rw (checked, ← a) refl
 
-      pub bytes_go : (r : Result Refusal counted.Counts) → value tt ≡ check_bytes 0 t → Agrees (LaidLeft b) r (lines_of t base k) → Agrees (LaidLeft b) r (layout_of t base k)
+      pub bytes_go : (r : Result counted.Counts Refusal) → Ok tt ≡ check_bytes 0 t → Agrees (LaidLeft b) r (lines_of t base k) → Agrees (LaidLeft b) r (layout_of t base k)
       bytes_go r a c = rw (checked, ← a) c
 
 -- ---- the answer
@@ -339,20 +341,19 @@ module _ (b b' : Buffers) where
 -- ---- the call: b₀ was lent, b₁ is cleared, and the stages left b
 
 module _ (t : List ℕ) (base : ℕ) (b₀ b₁ b : Buffers) (same : lengths b₁ ≡ lengths b₀) (kept : lengths b ≡ lengths b₁) where
-  pub call_through : (c : counted.Counts) → Agrees (LaidLeft b) (value c) (layout_of t base (lengths b₁))
-      → Assembled t base (lengths b₀) (answer_in (record { number = 0; line = 0; counts = c }) b)
+  pub call_through : (c : counted.Counts) → Agrees (LaidLeft b) (Ok c) (layout_of t base (lengths b₁))
+      → Assembled t base (lengths b₀) (answer_in (Ok c) b)
   call_through c a = assembled t base (lengths b₀) _ (by (layout_of t base (lengths b₀)) (rw same at a))
     where
-      by : (o : Result Refusal Layout) → Agrees (LaidLeft b) (value c) o → answer_in (record { number = 0; line = 0; counts = c }) b ≡ answer_of (lengths b₀) o
-      by (refused r) q = absurd q
-      by (value x) q =
+      by : (o : Result Layout Refusal) → Agrees (LaidLeft b) (Ok c) o → answer_in (Ok c) b ≡ answer_of (lengths b₀) o
+      by (Err r) q = absurd q
+      by (Ok x) q =
           let left : b ≡ buffers_of (lengths b₀) x = q.buffers ∙ ap (λ (z : Lent). buffers_of z x) (kept ∙ same) in
           λ j. record { number = 0; line = 0; counts = q.counts j; buffers = left j }
 
-  pub call-refused : (n line : ℕ) → Agrees (LaidLeft b) (refused (record { number = n; line = line })) (layout_of t base (lengths b₁))
-      → (b' : Buffers) → b' ≡ zero_buffers (lengths b)
-      → (r : answered.Answer) → r ≡ refused_answer n line → Assembled t base (lengths b₀) (answer_in r b')
-  call-refused n line a b' zeros r is =
+  pub call-refused : (r : RefusedAt) → Agrees (LaidLeft b) (Err (record { number = refusal_number r.refusal; line = r.line })) (layout_of t base (lengths b₁))
+      → (b' : Buffers) → b' ≡ zero_buffers (lengths b) → Assembled t base (lengths b₀) (answer_in (Err r) b')
+  call-refused r a b' zeros =
       assembled t base (lengths b₀) _
-      (ap (λ (z : answered.Answer). answer_in z b') is ∙ ap (λ (z : Buffers). answer_in (refused_answer n line) z) (zeros ∙ ap zero_buffers (kept ∙ same))
+      (ap (λ (z : Buffers). answer_in (Err r) z) (zeros ∙ ap zero_buffers (kept ∙ same))
       ∙ ap (answer_of (lengths b₀)) (sym (agreed_refused (LaidLeft b) _ (layout_of t base (lengths b₀)) (rw same at a))))

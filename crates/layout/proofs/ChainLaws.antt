@@ -5,10 +5,10 @@ use mathlib.Core.Path.{◌≡◌, refl, sym, ◌∙◌, ap}
 use mathlib.Core.Logic.{◌⊎◌, inl, inr}
 use mathlib.Core.List.{List, [], ◌∷◌, map}
 use mathlib.Core.Bool.{Bool, true, false, cond, ◌||◌, true≢false, false≢true}
-use mathlib.Core.Option.{Option, none, some}
+use Rattle.std.proofs.Common.{Option, None, Some}
 use native.Mathlib.Omega.{arith}
 use lib.IntN.{ℤ}
-use Rattle.numbers.specs.Results.{value}
+use Rattle.std.proofs.Common.{Ok}
 use Rattle.numbers.specs.Text.{same}
 use Rattle.numbers.proofs.Bools.{none-some}
 use Rattle.numbers.proofs.Prefixes.{same_equal, same_refl}
@@ -86,13 +86,13 @@ before_use σ e d a u (circular c b r s) = circular c b (onto d a u r) s
 module _ (σ : State) (turn : List Known → Equate → Evaluated) (E : Evaluator σ turn) where
   -- ---- a found equate starts none
   module _ (R : ℕ) (F : List Known) (H : History turn R F) (eq : map (λ k. k.equate) F ≡ σ.rest.equates)
-      (pending-free : (i : ℕ) (k : Known) → At F i k → k.found ≡ none → Free σ F k.equate) where
+      (pending-free : (i : ℕ) (k : Known) → At F i k → k.found ≡ None → Free σ F k.equate) where
     no_label : {j : ℕ} {l : Known} → At F j l → is_label (known_name l) σ.labels ≡ false
     no_label {j} {l} a = by l.found refl
       where
         by : (o : Option Found) → l.found ≡ o → is_label (known_name l) σ.labels ≡ false
-        by none e = (pending-free j l a e).no_label
-        by (some f) e = (found_free σ turn E R F H f a e).no_label
+        by None e = (pending-free j l a e).no_label
+        by (Some f) e = (found_free σ turn E R F H f a e).no_label
 
     -- the name of an equate is no label
     not_both : (d : Equate) → Among d σ.rest.equates → is_label (name_of d) σ.labels ≡ true → ⊥
@@ -101,7 +101,7 @@ module _ (σ : State) (turn : List Known → Equate → Evaluated) (E : Evaluato
         true≢false (sym e ∙ ap (λ (x : Equate). is_label (name_of x) σ.labels) (sym r.3) ∙ no_label r.2)
 
     -- an equate whose name a found one has is that one
-    is_that : (d : Equate) → Among d σ.rest.equates → {j : ℕ} {l : Known} (g : Found) → At F j l → l.found ≡ some g → known_name l ≡ name_of d
+    is_that : (d : Equate) → Among d σ.rest.equates → {j : ℕ} {l : Known} (g : Found) → At F j l → l.found ≡ Some g → known_name l ≡ name_of d
         → l.equate ≡ d
     is_that d m {j} {l} g a e p = by (at_among F (rw (← eq) at m))
       where
@@ -112,9 +112,9 @@ module _ (σ : State) (turn : List Known → Equate → Evaluated) (E : Evaluato
             q = ap name_of r.3
 
             last : (o : Option Found) → r.1.found ≡ o → l.equate ≡ d
-            last none u =
+            last None u =
                 absurd (none-some (sym (none-all F (known_name r.1) (pending-free r.0 r.1 r.2 u).fresh a (p ∙ sym q)) ∙ e))
-            last (some f) u =
+            last (Some f) u =
                 let s = same_one σ turn E R F H g f a e r.2 u (p ∙ sym q) in
                 ap (λ (x : Known). x.equate) (at_same a (rw (← s.0) at r.2)) ∙ r.3
 
@@ -122,13 +122,13 @@ module _ (σ : State) (turn : List Known → Equate → Evaluated) (E : Evaluato
     abbrev Fine : ℕ → Found → List ℕ → Type 0
     Fine i f n = ((z : ℤ) × Before F f.round i n z) ⊎ (is_label n σ.labels ≡ true)
 
-    fine : {e : Equate} {n : List ℕ} (i : ℕ) (k : Known) (f : Found) → At F i k → k.found ≡ some f → k.equate ≡ e → Reaches σ.rest.equates e n
+    fine : {e : Equate} {n : List ℕ} (i : ℕ) (k : Known) (f : Found) → At F i k → k.found ≡ Some f → k.equate ≡ e → Reaches σ.rest.equates e n
         → Fine i f n
     fine {n = n} i k f a e q (uses u) = used_before σ turn E R F H f a e n (rw q u)
     fine {n = n} i k f a e q (onto d m u r) =
         by (used_before σ turn E R F H f a e (name_of d) (rw q u)) (λ j l g b h p. fine j l g b h p r)
       where
-        by : Fine i f (name_of d) → ((j : ℕ) (l : Known) (g : Found) → At F j l → l.found ≡ some g → l.equate ≡ d → Fine j g n) → Fine i f n
+        by : Fine i f (name_of d) → ((j : ℕ) (l : Known) (g : Found) → At F j l → l.found ≡ Some g → l.equate ≡ d → Fine j g n) → Fine i f n
         by (inr x) more = absurd (not_both d m x)
         by (inl x) more =
             let b = x.1 in
@@ -152,7 +152,7 @@ module _ (σ : State) (turn : List Known → Equate → Evaluated) (E : Evaluato
                   },
                 )
 
-    pub found_fine : (i : ℕ) (k : Known) (f : Found) → At F i k → k.found ≡ some f → Unresolved σ k.equate → ⊥
+    pub found_fine : (i : ℕ) (k : Known) (f : Found) → At F i k → k.found ≡ Some f → Unresolved σ k.equate → ⊥
     found_fine i k f a e (undefined n r x) = by (fine i k f a e refl r)
       where
         by : Fine i f n → ⊥
@@ -220,7 +220,7 @@ free_less {d} ns (later {y = x} {xs = es} a) e = by (same (name_of d) (name_of x
 
 -- ---- a pending equate, where nothing more is found, starts one
 module _ (σ : State) (F : List Known) (eq : map (λ k. k.equate) F ≡ σ.rest.equates)
-    (lacks : (i : ℕ) (k : Known) → At F i k → k.found ≡ none → Lacks σ F k.equate) where
+    (lacks : (i : ℕ) (k : Known) → At F i k → k.found ≡ None → Lacks σ F k.equate) where
   -- passed: e itself, or an equate from which a chain has come to e's name
   abbrev Passed : Equate → Equate → Type 0
   Passed e p = Among p σ.rest.equates × ((p ≡ e) ⊎ Reaches σ.rest.equates p (name_of e))
@@ -246,10 +246,10 @@ module _ (σ : State) (F : List Known) (eq : map (λ k. k.equate) F ≡ σ.rest.
 
   -- from a pending equate onward, with fewer names left
   abbrev Next : ℕ → Type 0
-  Next b = (j : ℕ) (l : Known) (qs : List Equate) → At F j l → l.found ≡ none → free (map name_of qs) σ.rest.equates < b
+  Next b = (j : ℕ) (l : Known) (qs : List Equate) → At F j l → l.found ≡ None → free (map name_of qs) σ.rest.equates < b
       → Each (Passed l.equate) qs → Unresolved σ l.equate
 
-  step : (i : ℕ) (k : Known) (ps : List Equate) → At F i k → k.found ≡ none → Each (Passed k.equate) ps
+  step : (i : ℕ) (k : Known) (ps : List Equate) → At F i k → k.found ≡ None → Each (Passed k.equate) ps
       → Next (free (map name_of ps) σ.rest.equates) → Unresolved σ k.equate
   step i k ps a e g more = which (named_one σ.rest.equates w.lacked)
     where
@@ -292,12 +292,12 @@ module _ (σ : State) (F : List Known) (eq : map (λ k. k.equate) F ≡ σ.rest.
       which (inr x) = undefined w.lacked (uses w.used) (record { no_equate = x; no_label = w.no_label })
       which (inl r) = on r.0 r.1 r.2 (is_one_of (map name_of ps) w.lacked) refl
 
-  follow : (c : ℕ) (i : ℕ) (k : Known) (ps : List Equate) → At F i k → k.found ≡ none → free (map name_of ps) σ.rest.equates ≤ c
+  follow : (c : ℕ) (i : ℕ) (k : Known) (ps : List Equate) → At F i k → k.found ≡ None → free (map name_of ps) σ.rest.equates ≤ c
       → Each (Passed k.equate) ps → Unresolved σ k.equate
   follow zero i k ps a e h g = step i k ps a e g (λ j l qs b d p w. absurd (omega arith))
   follow (suc c) i k ps a e h g = step i k ps a e g (λ j l qs b d p w. follow c j l qs b d (omega arith) w)
 
-  pub left_over : (i : ℕ) (k : Known) → At F i k → k.found ≡ none → Unresolved σ k.equate
+  pub left_over : (i : ℕ) (k : Known) → At F i k → k.found ≡ None → Unresolved σ k.equate
   left_over i k a e =
       follow (free (map name_of (k.equate ∷ [])) σ.rest.equates) i k (k.equate ∷ []) a e (omega arith) ((rw eq at (among_at a), inl refl), tt)
 
@@ -305,7 +305,7 @@ module _ (σ : State) (F : List Known) (eq : map (λ k. k.equate) F ≡ σ.rest.
 
 -- a pending equate at a line
 abbrev pub PendingAt : List Known → ℕ → Type 0
-PendingAt F line = (j : ℕ) × (k : Known) × At F j k × (k.found ≡ none) × (k.equate.line ≡ line)
+PendingAt F line = (j : ℕ) × (k : Known) × At F j k × (k.found ≡ None) × (k.equate.line ≡ line)
 
 -- there is one
 pub first_left : (F : List Known) → 0 < pending_count F → PendingAt F (first_pending F)
@@ -314,10 +314,10 @@ first_left [] h = absurd (omega arith)
 first_left (k ∷ ks) h = by k.found refl (first_left ks) h
   where
     by : (o : Option Found) → k.found ≡ o → (0 < pending_count ks → PendingAt ks (first_pending ks))
-        → 0 < elim o [ none ↦ suc (pending_count ks) | some f ↦ pending_count ks ]
-        → PendingAt (k ∷ ks) (elim o [ none ↦ k.equate.line | some f ↦ first_pending ks ])
-    by none e more h = (0, k, here, e, refl)
-    by (some f) e more h = let r = more h in (suc r.0, r.1, there r.2, r.3, r.4)
+        → 0 < elim o [ None ↦ suc (pending_count ks) | Some f ↦ pending_count ks ]
+        → PendingAt (k ∷ ks) (elim o [ None ↦ k.equate.line | Some f ↦ first_pending ks ])
+    by None e more h = (0, k, here, e, refl)
+    by (Some f) e more h = let r = more h in (suc r.0, r.1, there r.2, r.3, r.4)
 
 rising_from : {j : ℕ} {k : Known} (n m : ℕ) (F : List Known) → Rising n (map (λ k. k.equate) F) m → At F j k → n ≤ k.equate.line
 rising_from n m (x ∷ xs) g here = g.0
@@ -325,15 +325,15 @@ rising_from n m (x ∷ xs) g (there a) = omega (arith, g.0, rising_from (suc x.e
 rising_from {j = j} {k = k} n m [] g never = elim never [ ]
 
 -- and none stands before it
-first_least : {j : ℕ} {k : Known} (n m : ℕ) (F : List Known) → Rising n (map (λ k. k.equate) F) m → At F j k → k.found ≡ none
+first_least : {j : ℕ} {k : Known} (n m : ℕ) (F : List Known) → Rising n (map (λ k. k.equate) F) m → At F j k → k.found ≡ None
     → first_pending F ≤ k.equate.line
 unfolding first_pending
 first_least n m (x ∷ xs) g here e = rw e (omega arith)
 first_least {k = k} n m (x ∷ xs) g (there a) e = by x.found (first_least (suc x.equate.line) m xs g.1 a e)
   where
-    by : (o : Option Found) → first_pending xs ≤ k.equate.line → elim o [ none ↦ x.equate.line | some f ↦ first_pending xs ] ≤ k.equate.line
-    by none h = omega (arith, rising_from (suc x.equate.line) m xs g.1 a)
-    by (some f) h = h
+    by : (o : Option Found) → first_pending xs ≤ k.equate.line → elim o [ None ↦ x.equate.line | Some f ↦ first_pending xs ] ≤ k.equate.line
+    by None h = omega (arith, rising_from (suc x.equate.line) m xs g.1 a)
+    by (Some f) h = h
 first_least {j = j} {k = k} n m [] g never e = elim never [ ]
 
 -- where a last round finds nothing, the first line that is left over is the first whose equate starts such a chain
@@ -354,18 +354,18 @@ stuck_names σ turn E m up line s =
     r : PendingAt F (first_pending F)
     r = first_left F s.pending
 
-    waits : (i : ℕ) (k : Known) → At F i k → k.found ≡ none → turn F k.equate ≡ value none
+    waits : (i : ℕ) (k : Known) → At F i k → k.found ≡ None → turn F k.equate ≡ Ok None
     waits i k a e = rw (shown_whole s.last i 0 F s.low) at ((rw e at (s.history i k a)) (suc s.last) (omega arith) (omega arith))
 
-    lacks : (i : ℕ) (k : Known) → At F i k → k.found ≡ none → Lacks σ F k.equate
+    lacks : (i : ℕ) (k : Known) → At F i k → k.found ≡ None → Lacks σ F k.equate
     lacks i k a e = E.wait_lacks F k.equate (waits i k a e)
 
     before : (d : Equate) → (j : ℕ) × (l : Known) × At F j l × (l.equate ≡ d) → d.line < line → Unresolved σ d → ⊥
     before d q h u = by q.1.found refl
       where
         by : (o : Option Found) → q.1.found ≡ o → ⊥
-        by none e =
+        by None e =
             omega (arith, h, s.is, ap (λ (x : Equate). x.line) q.3, first_least 0 m F (rw s.equates up) q.2 e)
-        by (some f) e =
+        by (Some f) e =
             found_fine σ turn E (suc s.last) F s.history s.equates (λ i k a p. E.wait_free F k.equate (waits i k a p))
             q.0 q.1 f q.2 e (rw q.3 u)

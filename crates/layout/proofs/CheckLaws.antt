@@ -9,7 +9,7 @@ use lib.ListN.{length, drop, get_or, drop_of_length-le}
 use lib.Seq.{drop-cons}
 use borrow.Author.Tests.{lt-ltb, le-ltb, eq-eqb, ne_eqb}
 use Rattle.numbers.proofs.Bools.{or_left, or_right}
-use Rattle.numbers.specs.Results.{value, refused}
+use Rattle.std.proofs.Common.{Ok, Err}
 use Rattle.layout.specs.Layouts.{check_bytes}
 use Rattle.layout.specs.Code.Checks.{any_high}
 
@@ -36,7 +36,7 @@ module _ (t : List ℕ) (i : ℕ) where
       or-false false = refl
 
   module _ (line : ℕ) (h : i < length t) (e : check_bytes line (drop i t) ≡ check_bytes 0 t) where
-    pub line_high : 127 < get_or t i 0 → refused (record { number = 1; line = line }) ≡ check_bytes 0 t
+    pub line_high : 127 < get_or t i 0 → Err (record { number = 1; line = line }) ≡ check_bytes 0 t
     unfolding check_bytes
     line_high q = rw (← e, drop-cons t i 0 h, check_bytes, lt-ltb 127 (get_or t i 0) q) refl
 
@@ -51,12 +51,12 @@ module _ (t : List ℕ) (i : ℕ) where
       line_same q =
           sym (rw (drop-cons t i 0 h, check_bytes, le-ltb 127 (get_or t i 0) low, ne_eqb (get_or t i 0) 10 q, add-one i) refl) ∙ e
 
-  pub line_end : (line : ℕ) → length t ≤ i → check_bytes line (drop i t) ≡ check_bytes 0 t → value tt ≡ check_bytes 0 t
+  pub line_end : (line : ℕ) → length t ≤ i → check_bytes line (drop i t) ≡ check_bytes 0 t → Ok tt ≡ check_bytes 0 t
   unfolding check_bytes
   line_end line h e = rw (← e, drop_of_length-le t {i = i} h) refl
 
 -- none above 127: every byte is fine
-pub none-high : (t : List ℕ) (line : ℕ) → any_high t ≡ false → value tt ≡ check_bytes line t
+pub none-high : (t : List ℕ) (line : ℕ) → any_high t ≡ false → Ok tt ≡ check_bytes line t
 unfolding any_high check_bytes
 none-high [] line e = refl
 none-high (b ∷ bs) line e =

@@ -4,11 +4,12 @@ use Prim.Native.Nat.{ℕ, zero, suc}
 use mathlib.Core.Path.{◌≡◌, refl, sym, ◌∙◌, ap}
 use mathlib.Core.List.{List, [], ◌∷◌, ◌++◌, map, map-append, append-nil, append_assoc}
 use mathlib.Core.Bool.{Bool, true, false, not, true≢false}
-use mathlib.Core.Option.{Option, none, some}
+use Rattle.std.proofs.Common.{Option, None, Some}
 use lib.Dec.{eqb}
 use lib.IntN.{ℤ, pos}
 use lib.ListN.{length}
-use Rattle.numbers.specs.Results.{Result, value, refused, and_then}
+use Rattle.std.proofs.Common.{Result, Ok, Err}
+use Rattle.numbers.specs.Results.{and_then}
 use Rattle.numbers.proofs.Bools.{none-some, and_left, and_right}
 use Rattle.layout.specs.Bytes.{is_one_of}
 use Rattle.layout.specs.Refusals.{Refusal, at_line}
@@ -56,34 +57,34 @@ worth_as base σ n n' z z' p q h = rw (p, q) at h
 module _ (base : ℕ) (σ : State) (C : Conditions base σ) where
   -- its value, if it has one, is what it can be evaluated to
   abbrev Grounded : Known → Type 0
-  Grounded k = (f : Found) → k.found ≡ some f → Worth base σ (known_name k) f.value
+  Grounded k = (f : Found) → k.found ≡ Some f → Worth base σ (known_name k) f.value
 
   -- ---- a turn
 
   -- it is not refused, and a value that it gives is what the equate can be evaluated to
   abbrev SafeTurn : Equate → Evaluated → Type 0
-  SafeTurn e (value (some z)) = Worth base σ (name_of e) z
-  SafeTurn e (value none) = Unit
-  SafeTurn e (refused m) = ⊥
+  SafeTurn e (Ok (Some z)) = Worth base σ (name_of e) z
+  SafeTurn e (Ok None) = Unit
+  SafeTurn e (Err m) = ⊥
 
-  module _ (S : List Known) (i : ℕ) (k : Known) (at : At S i k) (pend : k.found ≡ none) (eq : map (λ k. k.equate) S ≡ σ.rest.equates)
+  module _ (S : List Known) (i : ℕ) (k : Known) (at : At S i k) (pend : k.found ≡ None) (eq : map (λ k. k.equate) S ≡ σ.rest.equates)
       (G : Each Grounded S) where
-    grounded : (n : List ℕ) (z : ℤ) → look base σ S n ≡ some z → Worth base σ n z
+    grounded : (n : List ℕ) (z : ℤ) → look base σ S n ≡ Some z → Worth base σ n z
     grounded n z e = by (constant S n) refl (label_address base σ n) refl e
       where
-        by : (o : Option ℤ) → constant S n ≡ o → (p : Option ℕ) → label_address base σ n ≡ p → or_else o (as_number p) ≡ some z → Worth base σ n z
-        by (some y) u p w e =
+        by : (o : Option ℤ) → constant S n ≡ o → (p : Option ℕ) → label_address base σ n ≡ p → or_else o (as_number p) ≡ Some z → Worth base σ n z
+        by (Some y) u p w e =
             let v = some_one S n z (u ∙ e) in
             worth_as base σ (known_name v.known) n v.found.value z v.is v.value (of_each Grounded G v.at v.found v.has)
-        by none u none w e = absurd (none-some e)
-        by none u (some a) w e = let q : pos a ≡ z = cc in rw (← q) (of_label n a w)
+        by None u None w e = absurd (none-some e)
+        by None u (Some a) w e = let q : pos a ≡ z = cc in rw (← q) (of_label n a w)
 
-    unnamed : constant S (known_name k) ≡ none
+    unnamed : constant S (known_name k) ≡ None
     unnamed = by (constant S (known_name k)) refl
       where
-        by : (o : Option ℤ) → constant S (known_name k) ≡ o → constant S (known_name k) ≡ none
-        by none e = e
-        by (some z) e =
+        by : (o : Option ℤ) → constant S (known_name k) ≡ o → constant S (known_name k) ≡ None
+        by None e = e
+        by (Some z) e =
             let v = some_one S (known_name k) z e in
             let d : are_distinct (map name_of (map (λ k. k.equate) S)) ≡ true = rw eq C.distinct in
             let q = distinct_at S d v.at at v.is in
@@ -96,7 +97,7 @@ module _ (base : ℕ) (σ : State) (C : Conditions base σ) where
     safe_turn : SafeTurn k.equate (turn base σ S k.equate)
     safe_turn = by (turn base σ S k.equate) refl
       where
-        never : (m : ℕ) → TurnSays base σ S k.equate (refused m) → ⊥
+        never : (m : ℕ) → TurnSays base σ S k.equate (Err m) → ⊥
         never m (named-label p l) = true≢false (sym l ∙ C.no_label k.equate among)
         never m (named_again p l) = l unnamed
         never m (tries t) =
@@ -105,14 +106,14 @@ module _ (base : ℕ) (σ : State) (C : Conditions base σ) where
             (C.never_beyond k.equate among (look base σ S) grounded w.0 w.1) t.evaluated
 
         by : (v : Evaluated) → turn base σ S k.equate ≡ v → SafeTurn k.equate v
-        by (value (some z)) q =
+        by (Ok (Some z)) q =
             let ts = tokens (expr_text k.equate.expr) in
             let s : Sums base σ S k.equate z =
-            turn_said base σ S k.equate (value (some z)) (tried base σ S k.equate (some z) q) in
+            turn_said base σ S k.equate (Ok (Some z)) (tried base σ S k.equate (Some z) q) in
             of_equate k.equate among (look base σ S) grounded s.terms s.are z
             (summed_whole (look base σ S) (own_address_of base σ k.equate) (term positive positive) ts z s)
-        by (value none) q = tt
-        by (refused m) q = never m (turn-says base σ S k.equate (refused m) q)
+        by (Ok None) q = tt
+        by (Err m) q = never m (turn-says base σ S k.equate (Err m) q)
 
   -- ---- a round
 
@@ -139,13 +140,13 @@ module _ (base : ℕ) (σ : State) (C : Conditions base σ) where
       one_more l p w = (moved done ks k l p q, each_append Grounded done (l ∷ []) g (w, tt))
 
       late : (v : Evaluated) → SafeTurn k.equate v → Comes (SafeFirst ks) (λ _. ⊥) (at_line k.equate.line (after_turn r done k.equate n v))
-      late (value (some z)) w = one_more (given k z r) refl (λ f p. let u : record { value = z; round = r } ≡ f = cc in rw (← u) w)
-      late (value none) w = one_more (pending_equate k.equate) refl (λ f p. absurd (none-some p))
-      late (refused m) w = w
+      late (Ok (Some z)) w = one_more (given k z r) refl (λ f p. let u : record { value = z; round = r } ≡ f = cc in rw (← u) w)
+      late (Ok None) w = one_more (pending_equate k.equate) refl (λ f p. absurd (none-some p))
+      late (Err m) w = w
 
       by : (o : Option Found) → k.found ≡ o → Comes (SafeFirst ks) (λ _. ⊥) (pass_one base σ r done k ks n o)
-      by (some f) e = one_more k refl h.0
-      by none e =
+      by (Some f) e = one_more k refl h.0
+      by None e =
           late (turn base σ (done ++ k ∷ ks) k.equate)
           (safe_turn (done ++ k ∷ ks) (length done) k (at_middle done k ks) e q (each_append Grounded done (k ∷ ks) g h))
 
@@ -160,7 +161,7 @@ module _ (base : ℕ) (σ : State) (C : Conditions base σ) where
 
   -- ---- the rounds
 
-  abbrev SafeRounds : Result Refusal Turns → Type 0
+  abbrev SafeRounds : Result Turns Refusal → Type 0
   SafeRounds x = Comes (λ _. Unit) (λ (r : Refusal). r.number ≡ 17) x
 
   rounds_safe : (fuel r : ℕ) (ks : List Known) (n : ℕ) → Safe ks → SafeRounds (rounds base σ fuel r ks n)
@@ -170,30 +171,30 @@ module _ (base : ℕ) (σ : State) (C : Conditions base σ) where
       by (eqb (pending_count ks) 0) (pass base σ r [] ks n) (pass_safe r [] ks n s.equates tt s.each) (rounds_safe fuel (suc r))
     where
       last : (x : Turns) (c : Bool) → SafeRounds (rounds base σ fuel (suc r) x.known x.evaluations)
-          → SafeRounds (elim c [ true ↦ refused (unresolved x.known) | false ↦ rounds base σ fuel (suc r) x.known x.evaluations ])
+          → SafeRounds (elim c [ true ↦ Err (unresolved x.known) | false ↦ rounds base σ fuel (suc r) x.known x.evaluations ])
       last x true h = refl
       last x false h = h
 
-      by : (c : Bool) (x : Result Refusal Turns) → Comes (λ y. Safe y.known) (λ _. ⊥) x
+      by : (c : Bool) (x : Result Turns Refusal) → Comes (λ y. Safe y.known) (λ _. ⊥) x
           → ((ls : List Known) (m : ℕ) → Safe ls → SafeRounds (rounds base σ fuel (suc r) ls m))
           → SafeRounds (elim c [
-            | true ↦ value (turns ks n)
+            | true ↦ Ok (turns ks n)
             | false ↦ and_then x (λ y.
                 elim (eqb (pending_count y.known) (pending_count ks)) [
-                  | true ↦ refused (unresolved y.known)
+                  | true ↦ Err (unresolved y.known)
                   | false ↦ rounds base σ fuel (suc r) y.known y.evaluations
                 ])
           ])
       by true x h more = tt
-      by false (refused m) h more = absurd h
-      by false (value x) h more = last x (eqb (pending_count x.known) (pending_count ks)) (more x.known x.evaluations h)
+      by false (Err m) h more = absurd h
+      by false (Ok x) h more = last x (eqb (pending_count x.known) (pending_count ks)) (more x.known x.evaluations h)
 
   start_safe : (es : List Equate) → Each Grounded (map pending_equate es)
   start_safe [] = tt
   start_safe (e ∷ es) = ((λ f p. absurd (none-some p)), start_safe es)
 
   -- where an equate starts such a chain, the rounds say 17
-  pub chained_unresolved : Chained σ → (r : Refusal) × (resolve base σ σ.rest.equates ≡ refused r) × (r.number ≡ 17)
+  pub chained_unresolved : Chained σ → (r : Refusal) × (resolve base σ σ.rest.equates ≡ Err r) × (r.number ≡ 17)
   chained_unresolved u =
       let s : Safe (map pending_equate es) = record { equates = equates_all es; each = start_safe es } in
       by (resolve base σ es) refl (rounds_safe (suc (length es)) 1 (map pending_equate es) 0 s) (all_end base σ es)
@@ -201,7 +202,7 @@ module _ (base : ℕ) (σ : State) (C : Conditions base σ) where
       es : List Equate
       es = σ.rest.equates
 
-      by : (x : Result Refusal Turns) → resolve base σ es ≡ x → SafeRounds x → RoundsCome base σ es x
-          → (r : Refusal) × (resolve base σ es ≡ refused r) × (r.number ≡ 17)
-      by (value x) q s a = absurd (none_chained σ (turn base σ) (own_evaluator base σ) x.known x.evaluations a u)
-      by (refused r) q s a = (r, q, s)
+      by : (x : Result Turns Refusal) → resolve base σ es ≡ x → SafeRounds x → RoundsCome base σ es x
+          → (r : Refusal) × (resolve base σ es ≡ Err r) × (r.number ≡ 17)
+      by (Ok x) q s a = absurd (none_chained σ (turn base σ) (own_evaluator base σ) x.known x.evaluations a u)
+      by (Err r) q s a = (r, q, s)

@@ -1,8 +1,9 @@
 -- A line cut by one scan: its statement ends at the first LF, `;` or `#`, and up to the first `:` or `=` nothing parts it.
+use Rattle.std.proofs.Common.{Some}
 use Prim.Native.Nat.{ℕ, suc, ◌+◌, ◌-◌, min, ◌≤◌, ◌<◌}
 use mathlib.Core.Path.{◌≡◌, refl, sym, ap, ◌∙◌}
 use mathlib.Core.List.{List, [], ◌∷◌}
-use mathlib.Core.Option.{none}
+use Rattle.std.proofs.Common.{None}
 use mathlib.Core.Bool.{Bool, true, false, cond, ◌||◌, true≢false}
 use native.Mathlib.Numerals.{add-one}
 use native.Mathlib.Omega.{arith}
@@ -17,7 +18,6 @@ use Rattle.numbers.proofs.Places.{index_within}
 use Rattle.numbers.proofs.Trims.{trim_span-text}
 use Rattle.layout.specs.declared.state.Section.{Section}
 use Rattle.layout.specs.declared.scan.Cut.{Cut}
-use Rattle.layout.specs.declared.line.LabelPart.TheVariants as part
 use Rattle.layout.specs.declared.line.Labelled.{Labelled}
 use Rattle.layout.specs.Bytes.{count_before}
 use Rattle.layout.specs.Pieces.{Piece, piece, trim_piece, from_byte, holds, statement_of}
@@ -221,28 +221,28 @@ module _ (t : List ℕ) (s : Section) (q : Span) (n : ℕ) (e : n ≡ index_of (
   abbrev there : Piece
   there = piece_at t q
 
-  bare_parts : (m : ℕ) → m ≡ count_before is_mark (spanned t q) → label_by s there ≡ none → rest_by s there ≡ there
-      → Parted t s there (record { label = part.Unnamed; rest = q; from = m })
+  bare_parts : (m : ℕ) → m ≡ count_before is_mark (spanned t q) → label_by s there ≡ None → rest_by s there ≡ there
+      → Parted t s there (record { label = None; rest = q; from = m })
   bare_parts m k label rest = record { label = rw label refl; rest = sym rest; from = rw rest (marked_sign (spanned t q) m k) }
 
   pub unlabelled_parts : (m : ℕ) → m ≡ count_before is_mark (spanned t q) → length (spanned t q) ≤ n
-      → Parted t s there (record { label = part.Unnamed; rest = q; from = m })
+      → Parted t s there (record { label = None; rest = q; from = m })
   unlabelled_parts m k h =
       let no : holds (byte ":") there ≡ false = rw (← e) (le-ltb _ _ h) in
-      bare_parts m k (rw no (cond_same (is_bare s (spanned t q)) none)) (rw no (cond_same (is_bare s (spanned t q)) there))
+      bare_parts m k (rw no (cond_same (is_bare s (spanned t q)) None)) (rw no (cond_same (is_bare s (spanned t q)) there))
 
   pub string_parts : (m : ℕ) → m ≡ count_before is_mark (spanned t q) → is_bare s (spanned t q) ≡ true
-      → Parted t s there (record { label = part.Unnamed; rest = q; from = m })
+      → Parted t s there (record { label = None; rest = q; from = m })
   string_parts m k b = bare_parts m k (rw b refl) (rw b refl)
 
   pub labelled_parts : (name rest : Span) → n < length (spanned t q) → is_bare s (spanned t q) ≡ false
       → name ≡ span_of (trim_piece (piece q.start (take n (spanned t q)))) → rest ≡ span_of (trim_piece (from_byte (n + 1) there))
-      → Parted t s there (record { label = part.Named name; rest = rest; from = 0 })
+      → Parted t s there (record { label = Some name; rest = rest; from = 0 })
   unfolding before
   labelled_parts name rest h b f g =
       let found : holds (byte ":") there ≡ true = rw (← e) (lt-ltb _ _ h) in
       record {
-        label = rw (b, found, ← e) (ap part.Named f);
+        label = rw (b, found, ← e) (ap Some f);
         rest = rw (b, found, ← e, ← add-one n, g) (ap (piece _) (trim_from_back t q (n + 1) (omega arith)));
         from = omega arith;
       }

@@ -4,12 +4,13 @@ use native.Mathlib.Omega.{arith}
 use mathlib.Core.Path.{◌≡◌, refl, sym, ap, ◌∙◌}
 use mathlib.Core.List.{List, [], ◌∷◌, ◌++◌, map-append}
 use mathlib.Core.Bool.{Bool, true, false}
-use mathlib.Core.Option.{Option, none, some}
+use Rattle.std.proofs.Common.{Option, None, Some}
 use lib.Dec.{ltb}
 use lib.ListN.{length, take, drop, replicate, length-append, length-drop, length-replicate, length-map}
 use lib.IntN.{ℤ}
 use borrow.Author.Tests.{le-leb, lt-leb, lt-ltb, le-ltb, ltb-true, ltb-false}
-use Rattle.numbers.specs.Results.{Result, value, refused, mapped}
+use Rattle.std.proofs.Common.{Result, Ok, Err}
+use Rattle.numbers.specs.Results.{mapped}
 use Rattle.numbers.specs.Ints.{bits}
 use Rattle.numbers.specs.declared.text.Span.{Span}
 use Rattle.numbers.specs.declared.strings.Quoted.{Quoted}
@@ -52,9 +53,9 @@ use Rattle.layout.proofs.StepLaws.{lift_stop}
 -- ---- a string's text
 
 -- an answer of n bytes is there, and has them
-answer_there : (o : Option (List ℕ)) (n : ℕ) → size_of o ≡ some n → (o ≡ some (bytes_of o)) × (length (bytes_of o) ≡ n)
-answer_there none n e = absurd (none-some e)
-answer_there (some bs) n e = (refl, cc)
+answer_there : (o : Option (List ℕ)) (n : ℕ) → size_of o ≡ Some n → (o ≡ Some (bytes_of o)) × (length (bytes_of o) ≡ n)
+answer_there None n e = absurd (none-some e)
+answer_there (Some bs) n e = (refl, cc)
 
 -- stored in n bytes
 module _ (n : ℕ) (s : List ℕ) (h : StoredIn n s) where
@@ -62,7 +63,7 @@ module _ (n : ℕ) (s : List ℕ) (h : StoredIn n s) where
   text_size = (answer_there (text_of n s) n h).1
 
   -- where these are fewer than it has, it is decoded
-  pub text_decodes : n < length s → (decoded s ≡ some (decoded_bytes s)) × (length (decoded_bytes s) ≡ n) × (text_bytes n s ≡ decoded_bytes s)
+  pub text_decodes : n < length s → (decoded s ≡ Some (decoded_bytes s)) × (length (decoded_bytes s) ≡ n) × (text_bytes n s ≡ decoded_bytes s)
   text_decodes k =
       let e = lt-ltb n (length s) k in
       let d = answer_there (decoded s) n (rw e at h) in
@@ -70,7 +71,7 @@ module _ (n : ℕ) (s : List ℕ) (h : StoredIn n s) where
 
   -- else they are as many, and it is copied
   pub text_copies : length s ≤ n → (length s ≡ n) × (text_bytes n s ≡ s)
-  text_copies k = let e = le-ltb n (length s) k in ((answer_there (some s) n (rw e at h)).1, rw e refl)
+  text_copies k = let e = le-ltb n (length s) k in ((answer_there (Some s) n (rw e at h)).1, rw e refl)
 
   text_short : n ≤ length s
   text_short = by (ltb n (length s)) refl
@@ -158,7 +159,7 @@ module _ (t dst part : List ℕ) (n : ℕ) (x : Write) (q : Quoted) (z : ℕ) (e
 -- ---- label words
 
 no_word : (t : List ℕ) (line p : ℕ) (x : Write) (ws : List LabelWord) → ((q : Span) → x ≡ Address q → ⊥)
-    → add_label_word line p (write_at t x) ws ≡ value ws
+    → add_label_word line p (write_at t x) ws ≡ Ok ws
 unfolding add_label_word
 no_word t line p (Number w v) ws h = refl
 no_word t line p (Text q z) ws h = refl
@@ -171,17 +172,17 @@ label-word-sized r = refl
 
 module _ (t : List ℕ) (n : ℕ) (b : List ℕ) (line p : ℕ) (x : Write) where
   -- another write makes none
-  pub word_none : ((q : Span) → x ≡ Address q → ⊥) → Steps (LabelWordsStand t) n b (value n) b (add_label_word line p (write_at t x))
+  pub word_none : ((q : Span) → x ≡ Address q → ⊥) → Steps (LabelWordsStand t) n b (Ok n) b (add_label_word line p (write_at t x))
   word_none h ws s = rw (no_word t line p x ws h) s
 
   module _ (q : Span) (e : x ≡ Address q) where
-    pub word_many : label_word_limit ≤ n → Steps (LabelWordsStand t) n b (refused 47) b (add_label_word line p (write_at t x))
+    pub word_many : label_word_limit ≤ n → Steps (LabelWordsStand t) n b (Err 47) b (add_label_word line p (write_at t x))
     unfolding add_label_word
     word_many h ws s = rw (e, add_label_word, le-ltb (length ws) label_word_limit (omega (arith, h, s.counted))) refl
 
     pub word_goes : (b' : List ℕ) → WriteFits t x → n < label_word_limit → length b' ≡ length b
         → b' ≡ put (n * label_word_size) (field_bytes (label_word_fields (record { at = p; start = q.start; len = q.len; line = line }))) b
-        → Steps (LabelWordsStand t) n b (value (n + 1)) b' (add_label_word line p (write_at t x))
+        → Steps (LabelWordsStand t) n b (Ok (n + 1)) b' (add_label_word line p (write_at t x))
     unfolding add_label_word
     word_goes b' f h same g ws s =
         let r : LabelWordRecord = record { at = p; start = q.start; len = q.len; line = line } in
@@ -219,7 +220,7 @@ data_then bs ws = record { bytes = bs; label_words = ws }
 
 -- where the data have p bytes
 module _ (k : Room) (line : ℕ) (w : directive.Write) (σ : Stored) (p : ℕ) (e : p ≡ length σ.bytes) where
-  data_over : k.bytes < p + write_size p w → data_write k line w σ ≡ refused 42
+  data_over : k.bytes < p + write_size p w → data_write k line w σ ≡ Err 42
   unfolding data_write grow_data
   data_over h = rw (data_write, grow_data, lt-leb (length σ.bytes + write_size (length σ.bytes) w) k.bytes (rw e at h)) refl
 
@@ -229,12 +230,12 @@ module _ (k : Room) (line : ℕ) (w : directive.Write) (σ : Stored) (p : ℕ) (
   data_grows h = rw (data_write, grow_data, le-leb (length σ.bytes + write_size (length σ.bytes) w) k.bytes (rw e at h), e) refl
 
 -- steps of the data: m are the buffer's bytes, l the label words' records
-abbrev pub StoredSteps : List ℕ → Room → DataCount → List ℕ → List ℕ → Result ℕ DataCount → List ℕ → List ℕ → (Stored → Result ℕ Stored) → Type 0
+abbrev pub StoredSteps : List ℕ → Room → DataCount → List ℕ → List ℕ → Result DataCount ℕ → List ℕ → List ℕ → (Stored → Result Stored ℕ) → Type 0
 StoredSteps t k c m l r m' l' f = Steps (StoredStand t k) c (data_store m l) r (data_store m' l') f
 
 module _ (t : List ℕ) (k : Room) (c : DataCount) (m l : List ℕ) (line : ℕ) (x : Write) (n : ℕ)
     (size : n ≡ write_size c.bytes (write_at t x)) where
-  pub data_full : k.bytes < c.bytes + n → StoredSteps t k c m l (refused 42) m l (data_write k line (write_at t x))
+  pub data_full : k.bytes < c.bytes + n → StoredSteps t k c m l (Err 42) m l (data_write k line (write_at t x))
   data_full h σ s = rw (data_over k line (write_at t x) σ c.bytes s.counted (omega (arith, h, size))) refl
 
   module _ (h : c.bytes + n ≤ k.bytes) (i : line < length t) (ys l' : List ℕ)
@@ -251,14 +252,14 @@ module _ (t : List ℕ) (k : Room) (c : DataCount) (m l : List ℕ) (line : ℕ)
         ∙ ap (λ (bs : List ℕ). mapped (data_then (σ.bytes ++ bs)) (add_label_word line c.bytes (write_at t x) σ.label_words))
         (sym (written_is t c.bytes n x size))
 
-    pub data_stops : (q : ℕ) → r ≡ refused q → StoredSteps t k c m l (refused q) m' l' (data_write k line (write_at t x))
+    pub data_stops : (q : ℕ) → r ≡ Err q → StoredSteps t k c m l (Err q) m' l' (data_write k line (write_at t x))
     data_stops q e σ s =
         rw (grown σ s)
         (lift_stop (λ d. LabelWordsStand t d l') (λ d. StoredStand t k d (data_store m' l')) r (add_label_word line c.bytes (write_at t x) σ.label_words) _ q e
         (added σ.label_words s.label_words))
 
-    pub data_goes : (o : ℕ) → r ≡ value o
-        → StoredSteps t k c m l (value (record { bytes = c.bytes + n; label_words = o })) m' l' (data_write k line (write_at t x))
+    pub data_goes : (o : ℕ) → r ≡ Ok o
+        → StoredSteps t k c m l (Ok (record { bytes = c.bytes + n; label_words = o })) m' l' (data_write k line (write_at t x))
     data_goes o e σ s =
         rw (grown σ s)
         (by (add_label_word line c.bytes (write_at t x) σ.label_words) (rw e at (added σ.label_words s.label_words))
@@ -276,11 +277,11 @@ module _ (t : List ℕ) (k : Room) (c : DataCount) (m l : List ℕ) (line : ℕ)
         same : length m' ≡ length m
         same = ap length stored ∙ length-put c.bytes bs m (omega (arith, long, h, s.lent))
 
-        by : (a : Result ℕ (List LabelWord)) → Agrees (λ d. LabelWordsStand t d l') (value o) a
+        by : (a : Result (List LabelWord) ℕ) → Agrees (λ d. LabelWordsStand t d l') (Ok o) a
             → Gives (StoredFits t k) (mapped (data_then (σ.bytes ++ bs)) a)
-            → Agrees (λ d. StoredStand t k d (data_store m' l')) (value (record { bytes = c.bytes + n; label_words = o }))
+            → Agrees (λ d. StoredStand t k d (data_store m' l')) (Ok (record { bytes = c.bytes + n; label_words = o }))
             (mapped (data_then (σ.bytes ++ bs)) a)
-        by (value ws) g f =
+        by (Ok ws) g f =
             record {
               counted = omega (arith, s.counted, length-append σ.bytes bs, long);
               fits = f;
@@ -290,4 +291,4 @@ module _ (t : List ℕ) (k : Room) (c : DataCount) (m l : List ℕ) (line : ℕ)
                   ∙ ap (λ (j : ℕ). padded j (σ.bytes ++ bs)) (sym same);
               label_words = g;
             }
-        by (refused q) g f = absurd g
+        by (Err q) g f = absurd g

@@ -4,9 +4,10 @@ use Prim.Native.Nat.{ℕ}
 use mathlib.Core.Path.{◌≡◌, refl}
 use mathlib.Core.List.{List, [], ◌∷◌, ◌++◌, map}
 use mathlib.Core.Bool.{false, true}
-use mathlib.Core.Option.{Option, none, some}
+use Rattle.std.proofs.Common.{Option, None, Some}
 use lib.IntN.{ℤ, pos, negsuc}
-use Rattle.numbers.specs.Results.{Result, value, refused, mapped}
+use Rattle.std.proofs.Common.{Result, Ok, Err}
+use Rattle.numbers.specs.Results.{mapped}
 use Rattle.numbers.specs.Text.{text}
 use Rattle.layout.specs.Refusals.{Refusal}
 use Rattle.layout.specs.Limits.{full, room_of}
@@ -21,9 +22,9 @@ use Rattle.layout.proofs.Computing.{computing}
 use Rattle.layout.proofs.TwelveCases.{laid, words_of, laid_data, no}
 
 -- what the line stage reads
-abbrev state_of : Result Refusal State → State
-state_of (value σ) = σ
-state_of (refused r) = start
+abbrev state_of : Result State Refusal → State
+state_of (Ok σ) = σ
+state_of (Err r) = start
 
 abbrev pub read_of : List ℕ → State
 read_of t = state_of (line_stage (room_of full) 0 (line_pieces 0 (lines t)) start)
@@ -31,8 +32,8 @@ read_of t = state_of (line_stage (room_of full) 0 (line_pieces 0 (lines t)) star
 -- ---- the equates of an accepted layout: sums and rounds by the definitions of demand 3, and as they are recorded
 
 abbrev sum_in : State → Layout → Equate → Option (List Term) → Option ℤ
-sum_in σ l e none = none
-sum_in σ l e (some ts) = signed_sum (final_value l) (pos (address_at 0 σ e.place)) ts
+sum_in σ l e None = None
+sum_in σ l e (Some ts) = signed_sum (final_value l) (pos (address_at 0 σ e.place)) ts
 
 abbrev lawful_from : List Equate → List EquateAt → List EquateAt → List ℕ
 lawful_from [] above rs = []
@@ -47,7 +48,7 @@ pub record Equates : Type 0 where
   pub sum : ℕ
   pub evaluations : ℕ
 
-abbrev pub equates_of : List ℕ → Result Refusal Equates
+abbrev pub equates_of : List ℕ → Result Equates Refusal
 equates_of t =
     mapped (λ l. record {
       sums = map (λ e. sum_in (read_of t) l e (terms_of e)) (read_of t).rest.equates;
@@ -59,8 +60,8 @@ equates_of t =
     }) (laid t)
 
 -- sums and values the same, rounds lawful and as recorded
-abbrev told : List ℤ → List ℕ → ℕ → Result Refusal Equates
-told zs rs n = value (record { sums = map some zs; values = zs; lawful = rs; rounds = rs; sum = n; evaluations = n })
+abbrev told : List ℤ → List ℕ → ℕ → Result Equates Refusal
+told zs rs n = Ok (record { sums = map Some zs; values = zs; lawful = rs; rounds = rs; sum = n; evaluations = n })
 
 pub accepted-cases :
     -- document 01's case 10
@@ -70,11 +71,11 @@ pub accepted-cases :
     -- one that uses one above is found in the same round
     × (equates_of (text "a = 1\nb = a + a") ≡ told (pos 1 ∷ pos 2 ∷ []) (1 ∷ 1 ∷ []) 2)
     -- terms with their signs
-    × (map terms_of (read_of (text "x = --3 - -y")).rest.equates ≡ some (
+    × (map terms_of (read_of (text "x = --3 - -y")).rest.equates ≡ Some (
     record { joining = false; own = false; atom = literal (pos 3) } ∷
     record { joining = true; own = true; atom = named (text "y") } ∷ []
     ) ∷ [])
-    × (map terms_of (read_of (text "x = 3 +")).rest.equates ≡ none ∷ [])
+    × (map terms_of (read_of (text "x = 3 +")).rest.equates ≡ None ∷ [])
 unfolding computing terms_from signed_sum recorded_value recorded_address names_in largest sum_of_rounds
 accepted-cases = (refl, refl, refl, refl, refl)
 
@@ -85,22 +86,22 @@ abbrev items_from : Layout → List ItemAt → List (List ℕ)
 items_from l [] = []
 items_from l (i ∷ below) = item_words l i below ∷ items_from l below
 
-abbrev pub laid_items : List ℕ → Result Refusal (List (List ℕ))
+abbrev pub laid_items : List ℕ → Result (List (List ℕ)) Refusal
 laid_items t = mapped (λ l. items_from l l.items) (laid t)
 
-abbrev pub first_words_at : List ℕ → List ℕ → Result Refusal (List ℕ)
+abbrev pub first_words_at : List ℕ → List ℕ → Result (List ℕ) Refusal
 first_words_at t ns = mapped (λ l. map (λ n. word_from n l l.items) ns) (laid t)
 
 pub item-cases :
     -- an li by name, whose upper part is 0; an li by its number; an la
     (laid_items (text "n = 5\nli a0, n\nli a1, 2048\nla a2, t\nt: nop")
-    ≡ value ((0x00000537 ∷ 0x00550513 ∷ []) ∷ (0x000015B7 ∷ 0x80058593 ∷ []) ∷ (0x00000637 ∷ 0x01860613 ∷ []) ∷ (0 ∷ []) ∷ []))
+    ≡ Ok ((0x00000537 ∷ 0x00550513 ∷ []) ∷ (0x000015B7 ∷ 0x80058593 ∷ []) ∷ (0x00000637 ∷ 0x01860613 ∷ []) ∷ (0 ∷ []) ∷ []))
     -- an equate may be named as a number that `parse_imm` does not take: li then loads its value
-    × (words_of (text ".equ 99999999999, 5\nli a0, 99999999999") ≡ value (0x00000537 ∷ 0x00550513 ∷ []))
+    × (words_of (text ".equ 99999999999, 5\nli a0, 99999999999") ≡ Ok (0x00000537 ∷ 0x00550513 ∷ []))
     -- the first word at a line or below it: of an item at the line, of one below it, and behind all of them
-    × (first_words_at (text "x: nop\nn = 5\nli a0, n\ny: nop\nz:") (0 ∷ 1 ∷ 3 ∷ 4 ∷ []) ≡ value (0 ∷ 1 ∷ 3 ∷ 4 ∷ []))
+    × (first_words_at (text "x: nop\nn = 5\nli a0, n\ny: nop\nz:") (0 ∷ 1 ∷ 3 ∷ 4 ∷ []) ≡ Ok (0 ∷ 1 ∷ 3 ∷ 4 ∷ []))
     -- label words side by side
-    × (laid_data (text ".data\nt: .word u, t\nu: .byte 7") ≡ value (0x08 ∷ 0x10 ∷ 0 ∷ 0 ∷ 0x00 ∷ 0x10 ∷ 0 ∷ 0 ∷ 7 ∷ []))
+    × (laid_data (text ".data\nt: .word u, t\nu: .byte 7") ≡ Ok (0x08 ∷ 0x10 ∷ 0 ∷ 0 ∷ 0x00 ∷ 0x10 ∷ 0 ∷ 0 ∷ 7 ∷ []))
 unfolding computing word_from
 item-cases = (refl, refl, refl, refl)
 

@@ -4,13 +4,14 @@ use mathlib.Core.Path.{◌≡◌, refl, sym, ◌∙◌, ap, subst}
 use mathlib.Core.Logic.{◌↔◌, ◌⊎◌, inl, inr}
 use mathlib.Core.List.{List, [], map}
 use mathlib.Core.Bool.{Bool, true, false, not}
-use mathlib.Core.Option.{some}
+use Rattle.std.proofs.Common.{Some}
 use native.Mathlib.Nat.{suc-mul, mul-suc}
 use native.Mathlib.Omega.{arith}
 use lib.Dec.{ltb, eqb}
 use lib.ListN.{length, take, drop}
 use borrow.Author.Tests.{ltb-false, le-ltb}
-use Rattle.numbers.specs.Results.{Result, value, refused, and_then}
+use Rattle.std.proofs.Common.{Result, Ok, Err}
+use Rattle.numbers.specs.Results.{and_then}
 use Rattle.layout.specs.Pieces.{lines, line_pieces}
 use Rattle.layout.specs.declared.state.Section.TheVariants as section
 use Rattle.layout.specs.declared.state.Place.{Place}
@@ -60,50 +61,50 @@ not_late n q e = let h : is_early 17 ≡ true = ap is_early (sym q) ∙ e in let
 
 -- ---- the way to the rounds
 
-abbrev after_rounds : ℕ → State → List ℕ → Result Refusal Turns → Result Refusal Layout
+abbrev after_rounds : ℕ → State → List ℕ → Result Turns Refusal → Result Layout Refusal
 after_rounds base σ bytes rounds =
     and_then rounds (λ x.
-    and_then (emit base (constant x.known) (label_address base σ) σ.rest.own.items.list [] []) (λ e. value (layout base σ bytes x e)))
+    and_then (emit base (constant x.known) (label_address base σ) σ.rest.own.items.list [] []) (λ e. Ok (layout base σ bytes x e)))
 
-abbrev own_rounds : ℕ → State → Result Refusal Turns
+abbrev own_rounds : ℕ → State → Result Turns Refusal
 own_rounds base σ = resolve base σ σ.rest.equates
 
 -- refused before the rounds, not by 17; or the rounds decide
-data Way (t : List ℕ) (base : ℕ) (k : Lent) (o : Result Refusal Layout) : Type 0 where
-  before : (r : Refusal) → EarlyAt r → o ≡ refused r → Way t base k o
+data Way (t : List ℕ) (base : ℕ) (k : Lent) (o : Result Layout Refusal) : Type 0 where
+  before : (r : Refusal) → EarlyAt r → o ≡ Err r → Way t base k o
   by_rounds : (σ : State) (bytes : List ℕ) → BeforeRounds t base k σ bytes → o ≡ after_rounds base σ bytes (own_rounds base σ) → Way t base k o
 
 way : (t : List ℕ) (base : ℕ) (k : Lent) → Way t base k (layout_of t base k)
 unfolding layout_of after_lines
 way t base k = by (ltb base_limit base) refl (ltb text_limit (length t)) refl (check_bytes 0 t) refl (check_says t)
   where
-    read : Result Refusal State
+    read : Result State Refusal
     read = line_stage (room_of k) 0 (line_pieces 0 (lines t)) start
 
-    filled : State → Result Refusal (List ℕ)
+    filled : State → Result (List ℕ) Refusal
     filled σ = fill (label_address base σ) σ.rest.own.stored.label_words σ.rest.own.stored.bytes
 
     -- the label words
-    fills : (σ : State) → ((bytes : List ℕ) → filled σ ≡ value bytes → BeforeRounds t base k σ bytes) → (x : Result Refusal (List ℕ)) → filled σ ≡ x
+    fills : (σ : State) → ((bytes : List ℕ) → filled σ ≡ Ok bytes → BeforeRounds t base k σ bytes) → (x : Result (List ℕ) Refusal) → filled σ ≡ x
         → Says label_word_numbers (length (lines t)) x → Way t base k (and_then x (λ bytes. after_rounds base σ bytes (own_rounds base σ)))
-    fills σ b (refused r) q s = before r (early label_word_numbers refl (length (lines t)) r s) refl
-    fills σ b (value bytes) q s = by_rounds σ bytes (b bytes q) refl
+    fills σ b (Err r) q s = before r (early label_word_numbers refl (length (lines t)) r s) refl
+    fills σ b (Ok bytes) q s = by_rounds σ bytes (b bytes q) refl
 
     -- the lines
-    stages : base ≤ base_limit → length t ≤ text_limit → check_bytes 0 t ≡ value tt → (x : Result Refusal State) → read ≡ x
+    stages : base ≤ base_limit → length t ≤ text_limit → check_bytes 0 t ≡ Ok tt → (x : Result State Refusal) → read ≡ x
         → StageLaid (length (lines t)) x → Way t base k (and_then x (after_lines base))
-    stages low short plain (refused r) q s = before r (early line_numbers refl (length (lines t)) r s) refl
-    stages low short plain (value σ) q s =
+    stages low short plain (Err r) q s = before r (early line_numbers refl (length (lines t)) r s) refl
+    stages low short plain (Ok σ) q s =
         fills σ (λ bytes f. record { low = low; short = short; plain = plain; read = q; filled = f }) (filled σ) refl
         (fill-says (label_address base σ) (length (lines t)) σ.rest.own.stored.label_words σ.rest.own.stored.bytes s.rest.word_lines)
 
-    by : (c : Bool) → ltb base_limit base ≡ c → (d : Bool) → ltb text_limit (length t) ≡ d → (x : Result Refusal Unit) → check_bytes 0 t ≡ x
+    by : (c : Bool) → ltb base_limit base ≡ c → (d : Bool) → ltb text_limit (length t) ≡ d → (x : Result Unit Refusal) → check_bytes 0 t ≡ x
         → Says byte_numbers (length (lines t)) x
         → Way t base k (and_then (refuse_if c 40 0) (λ _. and_then (refuse_if d 41 0) (λ _. and_then x (λ _. and_then read (after_lines base)))))
     by true p d q x r s = before _ refl refl
     by false p true q x r s = before _ refl refl
-    by false p false q (refused r) e s = before r (early byte_numbers refl (length (lines t)) r s) refl
-    by false p false q (value u) e s =
+    by false p false q (Err r) e s = before r (early byte_numbers refl (length (lines t)) r s) refl
+    by false p false q (Ok u) e s =
         stages (ltb-false base_limit base p) (ltb-false text_limit (length t) q) e read refl (stage_laid t (room_of k))
 
 -- where nothing before the rounds refuses, the rounds decide
@@ -113,42 +114,42 @@ unfolding layout_of after_lines
 from-rounds t base k σ bytes b =
     ap (λ (c : Bool). and_then (refuse_if c 40 0) (λ _. short (ltb text_limit (length t)))) (le-ltb base_limit base b.low)
     ∙ ap short (le-ltb text_limit (length t) b.short)
-    ∙ ap (λ (x : Result Refusal Unit). and_then x (λ _. whole)) b.plain
-    ∙ ap (λ (x : Result Refusal State). and_then x (after_lines base)) b.read
-    ∙ ap (λ (x : Result Refusal (List ℕ)). and_then x (λ bytes. after_rounds base σ bytes (own_rounds base σ))) b.filled
+    ∙ ap (λ (x : Result Unit Refusal). and_then x (λ _. whole)) b.plain
+    ∙ ap (λ (x : Result State Refusal). and_then x (after_lines base)) b.read
+    ∙ ap (λ (x : Result (List ℕ) Refusal). and_then x (λ bytes. after_rounds base σ bytes (own_rounds base σ))) b.filled
   where
-    whole : Result Refusal Layout
+    whole : Result Layout Refusal
     whole = and_then (line_stage (room_of k) 0 (line_pieces 0 (lines t)) start) (after_lines base)
 
-    short : Bool → Result Refusal Layout
+    short : Bool → Result Layout Refusal
     short c = and_then (refuse_if c 41 0) (λ _. and_then (check_bytes 0 t) (λ _. whole))
 
 -- ---- 17
 
 -- what refuses after the rounds began: a turn or an item, not by 17; or the end of the rounds, by 17
-abbrev LateRefusal : Result Refusal Turns → Refusal → Type 0
-LateRefusal x r = EarlyAt r ⊎ ((r.number ≡ 17) × (x ≡ refused r))
+abbrev LateRefusal : Result Turns Refusal → Refusal → Type 0
+LateRefusal x r = EarlyAt r ⊎ ((r.number ≡ 17) × (x ≡ Err r))
 
-after-refused : (base : ℕ) (σ : State) (bytes : List ℕ) (m : ℕ) → Laid m σ → (x : Result Refusal Turns) → RoundsCome base σ σ.rest.equates x
-    → (r : Refusal) → after_rounds base σ bytes x ≡ refused r → LateRefusal x r
-after-refused base σ bytes m laid (refused s) g r e = by g
+after-refused : (base : ℕ) (σ : State) (bytes : List ℕ) (m : ℕ) → Laid m σ → (x : Result Turns Refusal) → RoundsCome base σ σ.rest.equates x
+    → (r : Refusal) → after_rounds base σ bytes x ≡ Err r → LateRefusal x r
+after-refused base σ bytes m laid (Err s) g r e = by g
   where
     p : s ≡ r
     p = refused-same e
 
-    by : RoundsRefused base σ σ.rest.equates s → LateRefusal (refused s) r
+    by : RoundsRefused base σ σ.rest.equates s → LateRefusal (Err s) r
     by (by_turn t) =
         inl (ap (λ (q : Refusal). is_early q.number) (sym p)
         ∙ in_all is_early turn_numbers refl s.number (turn_numbered base σ t.seen t.equate s.number t.refuses))
-    by (by_end q w) = inr (ap (λ (q : Refusal). q.number) (sym p) ∙ q, ap refused p)
-after-refused base σ bytes m laid (value x) g r e =
+    by (by_end q w) = inr (ap (λ (q : Refusal). q.number) (sym p) ∙ q, ap Err p)
+after-refused base σ bytes m laid (Ok x) g r e =
     by (emit base (constant x.known) (label_address base σ) σ.rest.own.items.list [] [])
     (emit-says base (constant x.known) (label_address base σ) m σ.rest.own.items.list [] [] laid.rest.item_lines) e
   where
-    by : (y : Result Refusal Emitted) → Says pseudo_numbers m y → and_then y (λ e. value (layout base σ bytes x e)) ≡ refused r
-        → LateRefusal (value x) r
-    by (refused s) h e = inl (ap (λ (q : Refusal). is_early q.number) (sym (refused-same e)) ∙ early pseudo_numbers refl m s h)
-    by (value y) h e = absurd (refused-value (sym e))
+    by : (y : Result Emitted Refusal) → Says pseudo_numbers m y → and_then y (λ e. Ok (layout base σ bytes x e)) ≡ Err r
+        → LateRefusal (Ok x) r
+    by (Err s) h e = inl (ap (λ (q : Refusal). is_early q.number) (sym (refused-same e)) ∙ early pseudo_numbers refl m s h)
+    by (Ok y) h e = absurd (refused-value (sym e))
 
 -- what the lines left
 read_laid : (t : List ℕ) (base : ℕ) (k : Lent) (σ : State) (bytes : List ℕ) → BeforeRounds t base k σ bytes → Laid (length (lines t)) σ
@@ -159,11 +160,11 @@ read_fits t base k σ bytes b = rw b.read at (stage_fits t k)
 
 -- for every text: where the answer is 17, its line is the first whose equate starts a chain of uses that comes back to a name in it or reaches
 -- an undefined one
-pub unresolved_line : (t : List ℕ) (base : ℕ) (k : Lent) (r : Refusal) → layout_of t base k ≡ refused r → r.number ≡ 17
+pub unresolved_line : (t : List ℕ) (base : ℕ) (k : Lent) (r : Refusal) → layout_of t base k ≡ Err r → r.number ≡ 17
     → (σ : State) × (bytes : List ℕ) × BeforeRounds t base k σ bytes × NamesFirst σ r.line
 unresolved_line t base k r e n = by (way t base k)
   where
-    names : (σ : State) (bytes : List ℕ) → BeforeRounds t base k σ bytes → own_rounds base σ ≡ refused r → NamesFirst σ r.line
+    names : (σ : State) (bytes : List ℕ) → BeforeRounds t base k σ bytes → own_rounds base σ ≡ Err r → NamesFirst σ r.line
     names σ bytes b q = last (rw q at (all_end base σ σ.rest.equates))
       where
         last : RoundsRefused base σ σ.rest.equates r → NamesFirst σ r.line
@@ -186,7 +187,7 @@ unresolved_line t base k r e n = by (way t base k)
 
 -- under document 01's conditions 17 comes exactly when an equate starts such a chain
 pub unresolved_exactly : (t : List ℕ) (base : ℕ) (k : Lent) (σ : State) (bytes : List ℕ) → BeforeRounds t base k σ bytes → Conditions base σ
-    → ((r : Refusal) × (layout_of t base k ≡ refused r) × (r.number ≡ 17)) ↔ Chained σ
+    → ((r : Refusal) × (layout_of t base k ≡ Err r) × (r.number ≡ 17)) ↔ Chained σ
 unresolved_exactly t base k σ bytes b c = (
   (λ x.
       let u = unresolved_line t base k x.0 x.1 x.2 in
@@ -260,14 +261,14 @@ module _ (t : List ℕ) (base : ℕ) (k : Lent) (σ : State) (bytes : List ℕ) 
             σ.rest.own.items.list σ.rest.own.items.words e refl refl m consecutive;
         words = w;
         text_labels = λ y i q. labels_hold y.name.bytes ∙ address_among base σ laid.labels i
-            ∙ ap some (word_holds x e m w y.line y.place (among_each _ reached.labels i) q);
+            ∙ ap Some (word_holds x e m w y.line y.place (among_each _ reached.labels i) q);
         text_dots = λ d i. word_holds x e m w d.line d.place (among_each _ reached.equates i);
         evaluations = a.evaluated ∙ spent_sum a.last x.known found;
         few = few;
       }
 
 -- "In every accepted layout, whatever the text, base and buffers"
-pub accepted_holds : (t : List ℕ) (base : ℕ) (k : Lent) (l : Layout) → layout_of t base k ≡ value l
+pub accepted_holds : (t : List ℕ) (base : ℕ) (k : Lent) (l : Layout) → layout_of t base k ≡ Ok l
     → (σ : State) × (bytes : List ℕ) × BeforeRounds t base k σ bytes × Holds base σ l
 accepted_holds t base k l e = by (way t base k)
   where
@@ -278,20 +279,20 @@ accepted_holds t base k l e = by (way t base k)
     bound = omega (arith, triangle_is (length l.equates), fits.evaluations)
 
     emits : (σ : State) (bytes : List ℕ) → BeforeRounds t base k σ bytes → (x : Turns)
-        → AllFound (turn base σ) σ.rest.equates x.known x.evaluations → (y : Result Refusal Emitted)
+        → AllFound (turn base σ) σ.rest.equates x.known x.evaluations → (y : Result Emitted Refusal)
         → Comes (EmittedAs (constant x.known) (label_address base σ) base σ.rest.own.items.list [] []) (λ _. Unit) y
         → Comes (EmitsFit t σ.rest.own.items.words σ.rest.own.items.list []) (InText t) y
-        → and_then y (λ e. value (layout base σ bytes x e)) ≡ value l → Holds base σ l
-    emits σ bytes b x a (refused r) m f p = absurd (refused-value p)
-    emits σ bytes b x a (value y) m f p =
+        → and_then y (λ e. Ok (layout base σ bytes x e)) ≡ Ok l → Holds base σ l
+    emits σ bytes b x a (Err r) m f p = absurd (refused-value p)
+    emits σ bytes b x a (Ok y) m f p =
         let q = value_same p in
         let n : 2 * x.evaluations ≤ length (found_equates x.known) * suc (length (found_equates x.known)) = rw (← q) at bound in
         subst (Holds base σ) q (layout-holds t base k σ bytes b x a y m f.sized n)
 
-    resolves : (σ : State) (bytes : List ℕ) → BeforeRounds t base k σ bytes → (x : Result Refusal Turns) → RoundsCome base σ σ.rest.equates x
-        → after_rounds base σ bytes x ≡ value l → Holds base σ l
-    resolves σ bytes b (refused r) a p = absurd (refused-value p)
-    resolves σ bytes b (value x) a p =
+    resolves : (σ : State) (bytes : List ℕ) → BeforeRounds t base k σ bytes → (x : Result Turns Refusal) → RoundsCome base σ σ.rest.equates x
+        → after_rounds base σ bytes x ≡ Ok l → Holds base σ l
+    resolves σ bytes b (Err r) a p = absurd (refused-value p)
+    resolves σ bytes b (Ok x) a p =
         let items = σ.rest.own.items in
         let fit = (read_fits t base k σ bytes b).rest.own.items in
         emits σ bytes b x a (emit base (constant x.known) (label_address base σ) σ.rest.own.items.list [] [])

@@ -4,10 +4,10 @@ use Prim.Native.Nat.{ℕ}
 use mathlib.Core.Path.{◌≡◌, refl, sym, ◌∙◌, ap}
 use mathlib.Core.List.{List, [], ◌∷◌}
 use mathlib.Core.Bool.{true, false, false≢true}
-use mathlib.Core.Option.{Option, none, some}
+use Rattle.std.proofs.Common.{Option, None, Some}
 use native.Mathlib.Omega.{arith}
 use lib.IntN.{ℤ, pos}
-use Rattle.numbers.specs.Results.{refused}
+use Rattle.std.proofs.Common.{Err}
 use Rattle.numbers.specs.Text.{text, same}
 use Rattle.numbers.proofs.Bools.{none-some}
 use Rattle.layout.specs.declared.state.Section.TheVariants as section
@@ -53,8 +53,8 @@ abbrev positive_term : Atom → Term
 positive_term a = record { joining = false; own = false; atom = a }
 
 -- one term, and within 64 signed bits under whatever can be evaluated: so the conditions are met
-met : (s : List ℕ) (t : Term) → terms_of (one s) ≡ some (t ∷ [])
-    → ((look : List ℕ → Option ℤ) → ((n : List ℕ) (z : ℤ) → look n ≡ some z → Worth 0 (state s) n z)
+met : (s : List ℕ) (t : Term) → terms_of (one s) ≡ Some (t ∷ [])
+    → ((look : List ℕ → Option ℤ) → ((n : List ℕ) (z : ℤ) → look n ≡ Some z → Worth 0 (state s) n z)
     → is_within look (pos 0) (pos 0) (t ∷ []) ≡ true)
     → Conditions 0 (state s)
 unfolding is_label
@@ -70,13 +70,13 @@ met s t terms within = record { well_formed = formed; distinct = refl; no_label 
 
 -- a name that cannot be evaluated
 unknown_within : (s n : List ℕ) → ((z : ℤ) → Worth 0 (state s) n z → ⊥) → (look : List ℕ → Option ℤ)
-    → ((m : List ℕ) (z : ℤ) → look m ≡ some z → Worth 0 (state s) m z) → is_within look (pos 0) (pos 0) (positive_term (named n) ∷ []) ≡ true
+    → ((m : List ℕ) (z : ℤ) → look m ≡ Some z → Worth 0 (state s) m z) → is_within look (pos 0) (pos 0) (positive_term (named n) ∷ []) ≡ true
 unfolding is_within
 unknown_within s n never look g = by (look n) refl
   where
     by : (o : Option ℤ) → look n ≡ o → is_within look (pos 0) (pos 0) (positive_term (named n) ∷ []) ≡ true
-    by none q = rw q refl
-    by (some z) q = absurd (never z (g n z q))
+    by None q = rw q refl
+    by (Some z) q = absurd (never z (g n z q))
 
 -- ---- `a = u`
 
@@ -84,7 +84,7 @@ before_u : BeforeRounds (text "a = u") 0 full (state (text "u")) []
 unfolding computing
 before_u = record { low = omega arith; short = omega arith; plain = refl; read = refl; filled = refl }
 
-terms_u : terms_of (one (text "u")) ≡ some (positive_term (named (text "u")) ∷ [])
+terms_u : terms_of (one (text "u")) ≡ Some (positive_term (named (text "u")) ∷ [])
 unfolding computing terms_from
 terms_u = refl
 
@@ -102,7 +102,7 @@ chained_u : Chained (state (text "u"))
 unfolding computing names_in
 chained_u = (one (text "u"), first, undefined (text "u") (uses refl) (record { no_equate = refl; no_label = refl }))
 
-pub comes_u : (r : Refusal) × (layout_of (text "a = u") 0 full ≡ refused r) × (r.number ≡ 17)
+pub comes_u : (r : Refusal) × (layout_of (text "a = u") 0 full ≡ Err r) × (r.number ≡ 17)
 comes_u = (unresolved_exactly (text "a = u") 0 full (state (text "u")) [] before_u conditions_u).1 chained_u
 
 pub owed_u : (x : Answer) → Demanded (text "a = u") 0 full x → x.number ≡ 17
@@ -114,19 +114,19 @@ before_a : BeforeRounds (text "a = a") 0 full (state (text "a")) []
 unfolding computing
 before_a = record { low = omega arith; short = omega arith; plain = refl; read = refl; filled = refl }
 
-terms_a : terms_of (one (text "a")) ≡ some (positive_term (named (text "a")) ∷ [])
+terms_a : terms_of (one (text "a")) ≡ Some (positive_term (named (text "a")) ∷ [])
 unfolding computing terms_from
 terms_a = refl
 
 -- its sum would need its own value first
-lacks_a : (look : List ℕ → Option ℤ) (ts : List Term) (y : ℤ) → terms_of (one (text "a")) ≡ some ts → signed_sum look (pos 0) ts ≡ some y
-    → ((v : ℤ) → look (text "a") ≡ some v → ⊥) → ⊥
+lacks_a : (look : List ℕ → Option ℤ) (ts : List Term) (y : ℤ) → terms_of (one (text "a")) ≡ Some ts → signed_sum look (pos 0) ts ≡ Some y
+    → ((v : ℤ) → look (text "a") ≡ Some v → ⊥) → ⊥
 unfolding signed_sum
 lacks_a look ts y t s never = by (look (text "a")) refl (ap (signed_sum look (pos 0)) (some_same (sym terms_a ∙ t)) ∙ s)
   where
-    by : (o : Option ℤ) → look (text "a") ≡ o → plus_term (positive_term (named (text "a"))) (look (text "a")) (some (pos 0)) ≡ some y → ⊥
-    by none q e = none-some (ap (λ (x : Option ℤ). plus_term (positive_term (named (text "a"))) x (some (pos 0))) (sym q) ∙ e)
-    by (some v) q e = never v q
+    by : (o : Option ℤ) → look (text "a") ≡ o → plus_term (positive_term (named (text "a"))) (look (text "a")) (Some (pos 0)) ≡ Some y → ⊥
+    by None q e = none-some (ap (λ (x : Option ℤ). plus_term (positive_term (named (text "a"))) x (Some (pos 0))) (sym q) ∙ e)
+    by (Some v) q e = never v q
 
 never_a : (n : List ℕ) (z : ℤ) → Worth 0 (state (text "a")) n z → same n (text "a") ≡ true → ⊥
 unfolding computing
@@ -142,7 +142,7 @@ chained_a : Chained (state (text "a"))
 unfolding computing names_in
 chained_a = (one (text "a"), first, circular (one (text "a")) first (uses refl) (uses refl))
 
-pub comes_a : (r : Refusal) × (layout_of (text "a = a") 0 full ≡ refused r) × (r.number ≡ 17)
+pub comes_a : (r : Refusal) × (layout_of (text "a = a") 0 full ≡ Err r) × (r.number ≡ 17)
 comes_a = (unresolved_exactly (text "a = a") 0 full (state (text "a")) [] before_a conditions_a).1 chained_a
 
 pub owed_a : (x : Answer) → Demanded (text "a = a") 0 full x → x.number ≡ 17
@@ -154,7 +154,7 @@ pub before_5 : BeforeRounds (text "a = 5") 0 full (state (text "5")) []
 unfolding computing
 before_5 = record { low = omega arith; short = omega arith; plain = refl; read = refl; filled = refl }
 
-terms_5 : terms_of (one (text "5")) ≡ some (positive_term (literal (pos 5)) ∷ [])
+terms_5 : terms_of (one (text "5")) ≡ Some (positive_term (literal (pos 5)) ∷ [])
 unfolding computing terms_from
 terms_5 = refl
 

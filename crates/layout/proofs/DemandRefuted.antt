@@ -5,11 +5,11 @@ use Prim.Native.Nat.{ℕ, zero, suc, ◌+◌, ◌*◌, ◌^◌, ◌<◌}
 use mathlib.Core.Path.{◌≡◌, refl, sym, ◌∙◌, ap, subst}
 use mathlib.Core.List.{List, [], ◌∷◌, ◌++◌}
 use mathlib.Core.Bool.{true, false, false≢true}
-use mathlib.Core.Option.{Option, none, some}
+use Rattle.std.proofs.Common.{Option, None, Some}
 use native.Mathlib.Omega.{arith}
 use lib.IntN.{ℤ, pos}
 use lib.ListN.{length, get_or, replicate}
-use Rattle.numbers.specs.Results.{value}
+use Rattle.std.proofs.Common.{Ok}
 use Rattle.numbers.specs.Text.{text}
 use Rattle.numbers.specs.Registers.{register_of}
 use Rattle.encoder.specs.Run.{Registers, done, failed, is_lui, is_addi, run}
@@ -42,7 +42,7 @@ pub record Claims (t : List ℕ) (l : Layout) (x : Answer) : Type 0 where
 
 -- what its lines say
 abbrev LinesSay : List ℕ → State → Type 0
-LinesSay t σ = line_stage (room_of full) 0 (line_pieces 0 (lines t)) start ≡ value σ
+LinesSay t σ = line_stage (room_of full) 0 (line_pieces 0 (lines t)) start ≡ Ok σ
 
 -- it would have to hold of that
 claim_holds : (t : List ℕ) (σ : State) (l : Layout) (x : Answer) → LinesSay t σ → Claims t l x → Demanded t 0 full x → Holds 0 σ l
@@ -129,9 +129,9 @@ later_zeros x c d = by h.equates.0.terms h.equates.0.well_formed h.equates.0.val
     h = two_holds (pos 0) 2 3 x c d
 
     -- under the value that is claimed of b it is 6
-    by : (ts : List Term) → terms_of a ≡ some ts → signed_sum (final_value l) (pos 0) ts ≡ some (pos 0) → ⊥
+    by : (ts : List Term) → terms_of a ≡ Some ts → signed_sum (final_value l) (pos 0) ts ≡ Some (pos 0) → ⊥
     by ts e v =
-        let w : some (pos 6) ≡ some (pos 0) = ap (signed_sum (final_value l) (pos 0)) (some_same e) ∙ v in
+        let w : Some (pos 6) ≡ Some (pos 0) = ap (signed_sum (final_value l) (pos 0)) (some_same e) ∙ v in
         let y : ◌≡◌ {A = ℕ} 6 0 = cc in
         omega arith
 
@@ -201,7 +201,7 @@ abbrev loading : List ℕ → List ℕ
 loading r = text "li " ++ r ++ text ", 5"
 
 abbrev loading_state : List ℕ → State
-loading_state r = state_with [] [] (own_with section.Text (record { offset = 0; line = 0; item = some Li; source = piece 0 (loading r) } ∷ []) 1 [] [])
+loading_state r = state_with [] [] (own_with section.Text (record { offset = 0; line = 0; item = Some Li; source = piece 0 (loading r) } ∷ []) 1 [] [])
 
 abbrev loading_layout : List ℕ → ℕ → Layout
 loading_layout r w = layout_with (w ∷ []) [] [] [] (record { address = 0; line = 0; kind = 1; first = 0; source = piece 0 (loading r) } ∷ []) 0
@@ -222,7 +222,7 @@ other_fails w regs after p q e = by (rw (p, q) at e)
     by e = let z : ◌≡◌ {A = ℕ} 0 1 = cc in omega arith
 
 -- the register that the first operand names
-named : {s ws a b : List ℕ} {says : List ℕ → Option ℤ} {n : ℕ} → pseudo_operands s ≡ a ∷ b ∷ [] → register_of a ≡ some n → (g : Loads s ws says)
+named : {s ws a b : List ℕ} {says : List ℕ → Option ℤ} {n : ℕ} → pseudo_operands s ≡ a ∷ b ∷ [] → register_of a ≡ Some n → (g : Loads s ws says)
     → n ≡ g.register
 named {a = a} p q g = some_same (sym q ∙ ap register_of (first-same (sym p ∙ g.operands)) ∙ g.is_register)
   where
@@ -271,8 +271,8 @@ shrunk_state =
     state_with (shrunk_label ∷ [])
     (equate 0 (text "n") 4 (text "5") 0 ∷ [])
     (own_with section.Text (
-    record { offset = 0; line = 1; item = some Li; source = piece 6 (text "li a0, n") } ∷
-    record { offset = 8; line = 2; item = none; source = piece 18 (text "ecall") } ∷ []
+    record { offset = 0; line = 1; item = Some Li; source = piece 6 (text "li a0, n") } ∷
+    record { offset = 8; line = 2; item = None; source = piece 18 (text "ecall") } ∷ []
     ) 3 [] [])
 
 shrunk_says : LinesSay shrunk shrunk_state
@@ -289,7 +289,7 @@ shrunk_layout ws x address n =
     ) 1
 
 -- what the call gives
-shrunk_laid : layout_of shrunk 0 full ≡ value (shrunk_layout (0x00000537 ∷ 0x00550513 ∷ 0 ∷ []) 8 8 2)
+shrunk_laid : layout_of shrunk 0 full ≡ Ok (shrunk_layout (0x00000537 ∷ 0x00550513 ∷ 0 ∷ []) 8 8 2)
 unfolding computing
 shrunk_laid = refl
 

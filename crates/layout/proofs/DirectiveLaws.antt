@@ -4,14 +4,12 @@ use native.Mathlib.Omega.{arith}
 use mathlib.Core.Path.{◌≡◌, refl, sym, ap, subst, ◌∙◌}
 use mathlib.Core.List.{List, [], ◌∷◌, map}
 use mathlib.Core.Bool.{Bool, true, false, cond, not, ◌&&◌, false≢true}
-use mathlib.Core.Option.{Option, none, some}
+use Rattle.std.proofs.Common.{Option, None, Some}
 use lib.Dec.{eqb, ltb, leb}
 use lib.ListN.{length, take, drop, get_or}
 use mir.Syntax.{w64}
 use mir.Val.{Fits}
 use borrow.Author.Tests.{eqb-true, ltb-true, leb-true}
-use Rattle.numbers.specs.declared.table.Found.{Found}
-use Rattle.numbers.specs.declared.table.Found.TheVariants.{At, Nothing}
 use Rattle.numbers.specs.Text.{text, starts_with}
 use Rattle.numbers.specs.Code.Tables.{is_word, row_name, all, first, found_row}
 use Rattle.numbers.proofs.Bools.{and_left, and_right}
@@ -23,8 +21,6 @@ use Rattle.layout.specs.declared.directives.Store.TheVariants.{Numbers, Text, Fl
 use Rattle.layout.specs.declared.directives.Directive.{Directive}
 use Rattle.layout.specs.declared.directives.Directive.TheVariants.{Symbol, Ignored, Equate, Reserves, Stores}
 use Rattle.layout.specs.declared.directives.Spelling.{Spelling}
-use Rattle.layout.specs.declared.directives.Spelled.{Spelled}
-use Rattle.layout.specs.declared.directives.Spelled.TheVariants as spelled
 use Rattle.layout.specs.Directives.{Row, directives, row_in}
 use Rattle.layout.specs.Code.Rows.{directive_number, directive_row, row_code, DirectiveFits, SpelledWithin}
 
@@ -108,7 +104,7 @@ begins s r = starts_with r.name s
 row_first : (rs : List Row) (s : List ℕ) → row_in rs s ≡ first (begins s) rs
 unfolding row_in first
 row_first [] s = refl
-row_first (r ∷ rs) s = ap (cond (starts_with r.name s) (some r)) (row_first rs s)
+row_first (r ∷ rs) s = ap (cond (starts_with r.name s) (Some r)) (row_first rs s)
 
 row_begins : (s : List ℕ) (r : Row) → is_small r ≡ true → starts_with (row_name (directive_row r)) s ≡ begins s r
 row_begins s r small =
@@ -124,24 +120,24 @@ pub row_within : (rs : List Row) (s : List ℕ) → DirectivesSmall rs → Spell
 row_within rs s small = go (row_in rs s) (row_first rs s)
   where
     go : (o : Option Row) → o ≡ first (begins s) rs → SpelledWithin (row_code o) (length s)
-    go none e = tt
-    go (some r) e =
+    go None e = tt
+    go (Some r) e =
         let m = first_meets is_small (begins s) rs small r (sym e) in
         (prefix_length r.name s m.1, number_fits r.directive (small_number r m.0))
 
 -- the row that the code finds: none, or one whose columns say what it is
-module _ (rs : List Row) (t s : List ℕ) (small : DirectivesSmall rs) (r : Found) (is : found_row t r ≡ first (λ x. starts_with (row_name x) s) (map directive_row rs)) where
+module _ (rs : List Row) (t s : List ℕ) (small : DirectivesSmall rs) (r : Option ℕ) (is : found_row t r ≡ first (λ x. starts_with (row_name x) s) (map directive_row rs)) where
   -- what the statement's row is, is within the statement
-  within : (r : Spelled) → r ≡ row_code (row_in rs s) → (r ≡ row_code (row_in rs s)) × SpelledWithin r (length s)
-  within r e = (e, subst (λ (x : Spelled). SpelledWithin x (length s)) (sym e) (row_within rs s small))
+  within : (r : Option Spelling) → r ≡ row_code (row_in rs s) → (r ≡ row_code (row_in rs s)) × SpelledWithin r (length s)
+  within r e = (e, subst (λ (x : Option Spelling). SpelledWithin x (length s)) (sym e) (row_within rs s small))
 
-  pub row_past : r ≡ Nothing → (spelled.Nothing ≡ row_code (row_in rs s)) × SpelledWithin spelled.Nothing (length s)
+  pub row_past : r ≡ None → (None ≡ row_code (row_in rs s)) × SpelledWithin None (length s)
   row_past e =
-      within spelled.Nothing
+      within None
       (sym (ap row_code (row_first rs s ∙ row_missed directive_row (λ x. starts_with (row_name x) s) is_small (begins s) (row_begins s) rs small t r is e)))
 
-  module _ (at : ℕ) (e : r ≡ At at) where
-    there : (x : Row) × (first (begins s) rs ≡ some x) × (directive_row x ≡ take 16 (drop at t))
+  module _ (at : ℕ) (e : r ≡ Some at) where
+    there : (x : Row) × (first (begins s) rs ≡ Some x) × (directive_row x ≡ take 16 (drop at t))
     there = row_found directive_row (λ x. starts_with (row_name x) s) is_small (begins s) (row_begins s) rs small t r is at e
 
     abbrev found : Row
@@ -181,11 +177,11 @@ module _ (rs : List Row) (t s : List ℕ) (small : DirectivesSmall rs) (r : Foun
       data_back : not (eqb (get_or t (at + 15) 0) 0) ≡ found.in_data
       data_back = ap (λ (k : ℕ). not (eqb k 0)) (column 2 (omega arith)) ∙ flag_back found.in_data
 
-      pub row_here : (spelled.As answer ≡ row_code (row_in rs s)) × SpelledWithin (spelled.As answer) (length s)
+      pub row_here : (Some answer ≡ row_code (row_in rs s)) × SpelledWithin (Some answer) (length s)
       row_here =
-          let row : row_in rs s ≡ some found = row_first rs s ∙ there.1 in
-          let same : row_code (some found) ≡ spelled.As answer = rw (directive_back, length_back, data_back) refl in
-          within (spelled.As answer) (sym (ap row_code row ∙ same))
+          let row : row_in rs s ≡ Some found = row_first rs s ∙ there.1 in
+          let same : row_code (Some found) ≡ Some answer = rw (directive_back, length_back, data_back) refl in
+          within (Some answer) (sym (ap row_code row ∙ same))
 
       -- the length of the row's name
       pub length_fits : Fits w64 (length s) → Fits w64 (get_or t (at + 13) 0)
@@ -204,7 +200,7 @@ dotted_other [] s e h = absurd (false≢true e)
 dotted_other (y ∷ n) s e h = rw (eqb-true y 46 (and_left (eqb y 46) true e)) (longer_prefix 46 n s h)
 
 -- a text that begins with no dot begins with none of such names
-dotless : (rs : List Row) (s : List ℕ) → all_dotted rs ≡ true → starts_with (text ".") s ≡ false → row_in rs s ≡ none
+dotless : (rs : List Row) (s : List ℕ) → all_dotted rs ≡ true → starts_with (text ".") s ≡ false → row_in rs s ≡ None
 unfolding all_dotted row_in
 dotless [] s e h = refl
 dotless (r ∷ rs) s e h =
@@ -215,5 +211,5 @@ directives_dotted : all_dotted directives ≡ true
 unfolding all_dotted starts_with directives
 directives_dotted = refl
 
-pub no_row : (s : List ℕ) → starts_with (text ".") s ≡ false → row_in directives s ≡ none
+pub no_row : (s : List ℕ) → starts_with (text ".") s ≡ false → row_in directives s ≡ None
 no_row s h = dotless directives s directives_dotted h

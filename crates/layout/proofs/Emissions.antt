@@ -3,12 +3,13 @@ use Prim.Native.Nat.{ℕ, suc, ◌^◌, ◌<◌}
 use mathlib.Core.Path.{◌≡◌, refl, ap, ◌∙◌}
 use mathlib.Core.List.{List, [], ◌∷◌}
 use mathlib.Core.Bool.{Bool, true, false, cond, ◌&&◌, false≢true}
-use mathlib.Core.Option.{Option, none, some}
+use Rattle.std.proofs.Common.{Option, None, Some}
 use native.Mathlib.Omega.{arith}
 use lib.IntN.{ℤ}
 use lib.ListN.{length}
 use borrow.Author.Tests.{le-leb}
-use Rattle.numbers.specs.Results.{Result, value, refused, and_then, mapped, or_refuse}
+use Rattle.std.proofs.Common.{Result, Ok, Err}
+use Rattle.numbers.specs.Results.{and_then, mapped, or_refuse}
 use Rattle.numbers.specs.Text.{text, starts_with}
 use Rattle.numbers.specs.Ints.{is_signed12, is_signed32, bits}
 use Rattle.numbers.specs.Numbers.{imm_of}
@@ -65,14 +66,14 @@ unfolding encoded
 encoded_each [] = (refl, tt)
 encoded_each (i ∷ is) = by (encoding i) (encoded is) (form_fits (form_of i)) (encoded_each is)
   where
-    by : (a : Result ℕ ℕ) (x : Result ℕ (List ℕ)) → Gives IsWord a → Gives (WordEach is) x
+    by : (a : Result ℕ ℕ) (x : Result (List ℕ) ℕ) → Gives IsWord a → Gives (WordEach is) x
         → Gives (WordEach (i ∷ is)) (and_then a (λ w. mapped (λ ws. w ∷ ws) x))
-    by (value w) (value ws) h g = (ap suc g.0, (h, g.1))
-    by (value w) (refused n) h g = tt
-    by (refused n) x h g = tt
+    by (Ok w) (Ok ws) h g = (ap suc g.0, (h, g.1))
+    by (Ok w) (Err n) h g = tt
+    by (Err n) x h g = tt
 
 -- no refusal
-abbrev Taken : Result ℕ (List ℕ) → Type 0
+abbrev Taken : Result (List ℕ) ℕ → Type 0
 Taken x = Comes (λ _. Unit) (λ _. ⊥) x
 
 -- "18 pseudo operand count, bad register", "19 li operand", "20 label not found"
@@ -89,7 +90,7 @@ ExpandedFits k x = Comes (BuiltFits k) PseudoRefusal x
 -- ---- operands
 
 -- a register that was read
-read_right : (a : List ℕ) (n : ℕ) → register_of a ≡ some n → is_register n ≡ true
+read_right : (a : List ℕ) (n : ℕ) → register_of a ≡ Some n → is_register n ≡ true
 read_right a n e = le-leb n 31 (omega (arith, register_below a n e))
 
 -- the operands of all but li: registers that are right, and neither a number nor an equate
@@ -100,7 +101,7 @@ WordWanted (equate rd b) = ⊥
 WordWanted (label a) = Unit
 WordWanted (register_label rd a) = is_register rd ≡ true
 
-abbrev WordsWanted : Result ℕ Wanted → Type 0
+abbrev WordsWanted : Result Wanted ℕ → Type 0
 WordsWanted x = Comes WordWanted PseudoRefusal x
 
 one_register_lem : (ops : List (List ℕ)) → WordsWanted (one_register ops)
@@ -108,8 +109,8 @@ one_register_lem [] = refl
 one_register_lem (a ∷ []) = by (register_of a) refl
   where
     by : (o : Option ℕ) → register_of a ≡ o → WordsWanted (wanted_register o)
-    by none e = refl
-    by (some n) e = read_right a n e
+    by None e = refl
+    by (Some n) e = read_right a n e
 one_register_lem (a ∷ b ∷ more) = refl
 
 one_label_lem : (ops : List (List ℕ)) → WordsWanted (one_label ops)
@@ -117,8 +118,8 @@ one_label_lem [] = refl
 one_label_lem (a ∷ []) = by (register_of a)
   where
     by : (o : Option ℕ) → WordsWanted (wanted_label a o)
-    by none = tt
-    by (some n) = refl
+    by None = tt
+    by (Some n) = refl
 one_label_lem (a ∷ b ∷ more) = refl
 
 register_label_lem : (ops : List (List ℕ)) → WordsWanted (register_and_label ops)
@@ -126,9 +127,9 @@ register_label_lem [] = refl
 register_label_lem (a ∷ []) = refl
 register_label_lem (a ∷ b ∷ []) = by (register_of a) refl
   where
-    by : (o : Option ℕ) → register_of a ≡ o → WordsWanted (or_refuse 18 (register_before (some b) o) label_last)
-    by none e = refl
-    by (some n) e = read_right a n e
+    by : (o : Option ℕ) → register_of a ≡ o → WordsWanted (or_refuse 18 (register_before (Some b) o) label_last)
+    by None e = refl
+    by (Some n) e = read_right a n e
 register_label_lem (a ∷ b ∷ c ∷ more) = refl
 
 -- ---- names, and the instructions
@@ -139,17 +140,17 @@ module _ (const : List ℕ → Option ℤ) (place : List ℕ → Option ℕ) whe
       → ExpandedFits k (mapped (instructions p) (and_then (wanted p ops) (looked_up const place)))
   word_fits p k f ops h = by (wanted p ops) h
     where
-      address : (rd : ℕ) → is_register rd ≡ true → (o : Option ℕ) → ExpandedFits k (mapped (instructions p) (or_refuse 20 o (λ n. value (word rd n))))
-      address rd r none = refl
-      address rd r (some n) = f rd n r
+      address : (rd : ℕ) → is_register rd ≡ true → (o : Option ℕ) → ExpandedFits k (mapped (instructions p) (or_refuse 20 o (λ n. Ok (word rd n))))
+      address rd r None = refl
+      address rd r (Some n) = f rd n r
 
-      by : (x : Result ℕ Wanted) → WordsWanted x → ExpandedFits k (mapped (instructions p) (and_then x (looked_up const place)))
-      by (refused n) h = h
-      by (value (register rd)) h = f rd 0 h
-      by (value (number rd z)) h = absurd h
-      by (value (equate rd b)) h = absurd h
-      by (value (label a)) h = address x0 refl (place a)
-      by (value (register_label rd a)) h = address rd h (place a)
+      by : (x : Result Wanted ℕ) → WordsWanted x → ExpandedFits k (mapped (instructions p) (and_then x (looked_up const place)))
+      by (Err n) h = h
+      by (Ok (register rd)) h = f rd 0 h
+      by (Ok (number rd z)) h = absurd h
+      by (Ok (equate rd b)) h = absurd h
+      by (Ok (label a)) h = address x0 refl (place a)
+      by (Ok (register_label rd a)) h = address rd h (place a)
 
   -- li: a single addi of a number that it holds, or the pair of any
   load_fits : (one : Bool) (rd : ℕ) (z : ℤ) → is_register rd ≡ true → (one ≡ true → is_signed12 z ≡ true)
@@ -160,17 +161,17 @@ module _ (const : List ℕ → Option ℤ) (place : List ℕ → Option ℕ) whe
 
   number_fits : (rd : ℕ) (b : List ℕ) (o : Option ℤ) → is_register rd ≡ true
       → ExpandedFits (cond (is_single o) 1 2) (mapped (instructions Li) (looked_up const place (number_or rd b o)))
-  number_fits rd b (some z) r = load_fits (is_signed12 z) rd z r (λ e. e)
-  number_fits rd b none r = by (starts_with (text "'") b) (const b)
+  number_fits rd b (Some z) r = load_fits (is_signed12 z) rd z r (λ e. e)
+  number_fits rd b None r = by (starts_with (text "'") b) (const b)
     where
-      last : (z : ℤ) (c : Bool) → ExpandedFits 2 (mapped (instructions Li) (mapped (li_load false rd) (cond c (value z) (refused 19))))
+      last : (z : ℤ) (c : Bool) → ExpandedFits 2 (mapped (instructions Li) (mapped (li_load false rd) (cond c (Ok z) (Err 19))))
       last z true = load_fits false rd z r (λ e. absurd (false≢true e))
       last z false = refl
 
-      by : (c : Bool) (o : Option ℤ) → ExpandedFits 2 (mapped (instructions Li) (mapped (li_load false rd) (cond c (refused 19) (li_held o))))
+      by : (c : Bool) (o : Option ℤ) → ExpandedFits 2 (mapped (instructions Li) (mapped (li_load false rd) (cond c (Err 19) (li_held o))))
       by true o = refl
-      by false none = refl
-      by false (some z) = last z (is_signed32 z)
+      by false None = refl
+      by false (Some z) = last z (is_signed32 z)
 
   li_fits : (ops : List (List ℕ)) → ExpandedFits (li_words ops) (mapped (instructions Li) (and_then (wanted Li ops) (looked_up const place)))
   li_fits [] = refl
@@ -179,9 +180,9 @@ module _ (const : List ℕ → Option ℤ) (place : List ℕ → Option ℕ) whe
     where
       by : (o : Option ℕ) → register_of a ≡ o
           → ExpandedFits (cond (is_single (imm_of b)) 1 2)
-          (mapped (instructions Li) (and_then (or_refuse 18 (register_before (some b) o) number_last) (looked_up const place)))
-      by none e = refl
-      by (some n) e = number_fits n b (imm_of b) (read_right a n e)
+          (mapped (instructions Li) (and_then (or_refuse 18 (register_before (Some b) o) number_last) (looked_up const place)))
+      by None e = refl
+      by (Some n) e = number_fits n b (imm_of b) (read_right a n e)
   li_fits (a ∷ b ∷ c ∷ more) = refl
 
 -- the words of an item: as many as it reserves
@@ -204,21 +205,21 @@ module _ (const : List ℕ → Option ℤ) (place : List ℕ → Option ℕ) whe
 
   -- what an item emits, or 18, 19 or 20
   pub emission_fits : (item : Option Pseudo) (s : List ℕ) → Comes (WordsFit item s) PseudoRefusal (emission const place item s)
-  emission_fits none s = (refl, (omega arith, tt))
-  emission_fits (some p) s = by (expansion const place p (pseudo_operands s)) (expansion_fits p s)
+  emission_fits None s = (refl, (omega arith, tt))
+  emission_fits (Some p) s = by (expansion const place p (pseudo_operands s)) (expansion_fits p s)
     where
-      all : (is : List Instruction) (x : Result ℕ (List ℕ)) → length is ≡ pseudo_words p s → Taken x → Gives (WordEach is) x
-          → Comes (WordsFit (some p) s) PseudoRefusal x
-      all is (value ws) e k g = (g.0 ∙ e, g.1)
-      all is (refused n) e k g = absurd k
+      all : (is : List Instruction) (x : Result (List ℕ) ℕ) → length is ≡ pseudo_words p s → Taken x → Gives (WordEach is) x
+          → Comes (WordsFit (Some p) s) PseudoRefusal x
+      all is (Ok ws) e k g = (g.0 ∙ e, g.1)
+      all is (Err n) e k g = absurd k
 
-      by : (x : Expanded) → ExpandedFits (pseudo_words p s) x → Comes (WordsFit (some p) s) PseudoRefusal (and_then x encoded)
-      by (value is) h = all is (encoded is) h.0 h.1 (encoded_each is)
-      by (refused n) h = h
+      by : (x : Expanded) → ExpandedFits (pseudo_words p s) x → Comes (WordsFit (Some p) s) PseudoRefusal (and_then x encoded)
+      by (Ok is) h = all is (encoded is) h.0 h.1 (encoded_each is)
+      by (Err n) h = h
 
-  pub emission-sized : (item : Option Pseudo) (s vs : List ℕ) → emission const place item s ≡ value vs → length vs ≡ reserved_words item s
+  pub emission-sized : (item : Option Pseudo) (s vs : List ℕ) → emission const place item s ≡ Ok vs → length vs ≡ reserved_words item s
   emission-sized item s vs e = (rw e at (emission_fits item s)).0
 
   -- an item is refused by 18, 19 or 20 alone
-  pub emission-refused : (item : Option Pseudo) (s : List ℕ) (n : ℕ) → emission const place item s ≡ refused n → PseudoRefusal n
+  pub emission-refused : (item : Option Pseudo) (s : List ℕ) (n : ℕ) → emission const place item s ≡ Err n → PseudoRefusal n
   emission-refused item s n e = rw e at (emission_fits item s)

@@ -1,22 +1,21 @@
 -- Items to words: what an item emits, by what its operands come to, into what is lent.
 use Prim.Native.Nat.{ℕ, ◌≤◌}
 use native.Mathlib.Omega.{arith}
-use mathlib.Core.Path.{◌≡◌, refl, sym, ap, ◌∙◌}
+use mathlib.Core.Path.{◌≡◌, refl, ap, ◌∙◌}
 use mathlib.Core.List.{List, [], ◌∷◌}
-use mathlib.Core.Option.{Option, some}
+use Rattle.std.proofs.Common.{Option, Some}
 use lib.IntN.{ℤ}
 use lib.ListN.{length, set}
 use lib.Seq.{set_split}
-use Rattle.numbers.specs.Results.{value, refused, and_then}
-use Rattle.encoder.specs.declared.sequences.Expansion.{Expansion}
+use Rattle.std.proofs.Common.{Ok, Err}
+use Rattle.numbers.specs.Results.{and_then}
+use Rattle.encoder.specs.declared.instruction.Instruction.{Instruction}
 use Rattle.encoder.specs.Encoding.{encoded}
-use Rattle.encoder.specs.Code.Slots.{longest, instructions_in, WordsPut}
-use Rattle.encoder.proofs.PutLaws.{slots_size}
+use Rattle.encoder.specs.Code.Words.{WordsPut}
 use Rattle.layout.specs.declared.pseudo.Pseudo.{Pseudo}
 use Rattle.layout.specs.Pseudos.{pseudo_operands, pseudo_words}
 use Rattle.layout.specs.Expansions.{wanted, Arguments, looked_up, instructions, expansion}
 use Rattle.layout.specs.Layouts.{emission}
-use Rattle.layout.proofs.PseudoLaws.{words_few}
 use Rattle.layout.proofs.Emissions.{expansion_fits}
 
 -- the one word of an ordinary line
@@ -26,20 +25,19 @@ one_put d h = record { counted = refl; put = set_split d 0 0 h }
 -- a pseudo's words, by what its operands come to
 module _ (const : List ℕ → Option ℤ) (place : List ℕ → Option ℕ) (p : Pseudo) (s : List ℕ) where
   -- they are refused
-  pub emits_refused : (n : ℕ) → refused n ≡ and_then (wanted p (pseudo_operands s)) (looked_up const place) → refused n ≡ emission const place (some p) s
+  pub emits_refused : (n : ℕ) → Err n ≡ and_then (wanted p (pseudo_operands s)) (looked_up const place) → Err n ≡ emission const place (Some p) s
   unfolding expansion
   emits_refused n e = rw (← e) refl
 
-  module _ (a : Arguments) (e : value a ≡ and_then (wanted p (pseudo_operands s)) (looked_up const place)) where
+  module _ (a : Arguments) (e : Ok a ≡ and_then (wanted p (pseudo_operands s)) (looked_up const place)) where
     -- they are the instructions' words
-    pub emits_built : encoded (instructions p a) ≡ emission const place (some p) s
+    pub emits_built : encoded (instructions p a) ≡ emission const place (Some p) s
     unfolding expansion
     emits_built = rw (← e) refl
 
     -- as many as the item reserves
-    pub built_room : (x : Expansion) (room : ℕ) → instructions_in x ≡ instructions p a → pseudo_words p s ≤ room → (x.count ≤ longest) × (x.count ≤ room)
+    pub built_room : (is : List Instruction) (room : ℕ) → is ≡ instructions p a → pseudo_words p s ≤ room → length is ≤ room
     unfolding expansion
-    built_room x room g h =
-        let sized : x.count ≡ pseudo_words p s =
-        sym (slots_size x.slots 0 x.count) ∙ ap length g ∙ (rw (← e) at (expansion_fits const place p s)).0 in
-        (omega (arith, sized, (words_few (some p) s).1), omega (arith, sized))
+    built_room is room g h =
+        let sized : length is ≡ pseudo_words p s = ap length g ∙ (rw (← e) at (expansion_fits const place p s)).0 in
+        omega (arith, sized)

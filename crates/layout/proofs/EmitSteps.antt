@@ -4,16 +4,16 @@ use native.Mathlib.Nat.{sub-zero}
 use native.Mathlib.Omega.{arith}
 use mathlib.Core.Path.{◌≡◌, refl, sym, ap, ap₂, ◌∙◌}
 use mathlib.Core.List.{List, [], ◌∷◌, ◌++◌, map, append_assoc, append-nil}
-use mathlib.Core.Option.{Option}
+use Rattle.std.proofs.Common.{Option}
 use lib.ListN.{length, take, drop, get_or, length-append}
 use lib.Seq.{set_at, get_or-append_seam}
 use lib.IntN.{ℤ}
-use Rattle.numbers.specs.Results.{Result, value, refused}
+use Rattle.std.proofs.Common.{Result, Ok, Err}
 use Rattle.numbers.specs.Code.Spans.{spanned}
 use Rattle.layout.specs.declared.records.ItemRecord.{ItemRecord}
 use Rattle.layout.specs.declared.pseudo.Pseudo.{Pseudo}
 use Rattle.layout.specs.Bytes.{little_endian, put, padded, together}
-use Rattle.layout.specs.Limits.{text_limit, word_limit, item_limit, item_size}
+use Rattle.layout.specs.Limits.{text_limit, word_limit, item_size}
 use Rattle.layout.specs.Pieces.{piece}
 use Rattle.layout.specs.Pseudos.{item_kind, reserved_words}
 use Rattle.layout.specs.State.{ItemLine, Items}
@@ -24,10 +24,10 @@ use Rattle.layout.specs.Rounds.{constant}
 use Rattle.layout.specs.declared.addresses.Starts.{Starts}
 use Rattle.layout.specs.Code.Fits.{Each, ItemFits, Consecutive}
 use Rattle.layout.specs.Code.Emits.{Unemitted, emitted_in, EmitLeft}
-use Rattle.layout.specs.Code.Steps.{Some, Agrees}
+use Rattle.layout.specs.Code.Steps.{Exists, Agrees}
 use Rattle.layout.specs.Code.Placed.{PlaceCoded}
 use Rattle.layout.specs.Code.Names.{Scope, NamesStand}
-use Rattle.encoder.specs.Code.Slots.{WordsPut}
+use Rattle.encoder.specs.Code.Words.{WordsPut}
 use Rattle.layout.specs.Code.Expands.{emission_in, source_span, ItemRecordFits}
 use Rattle.layout.specs.declared.state.Section.TheVariants as section
 use Rattle.layout.specs.Code.Stands.{item_so_far}
@@ -100,13 +100,13 @@ module _ (base : ℕ) (const : List ℕ → Option ℤ) (label : List ℕ → Op
   unfolding spanned
   item_source = m.fits.0.source.is
 
-  pub emit-refused : (n : ℕ) → emission const label x.item x.source.bytes ≡ refused n
-      → emit base const label σ.list [] [] ≡ refused (record { number = n; line = x.line })
+  pub emit-refused : (n : ℕ) → emission const label x.item x.source.bytes ≡ Err n
+      → emit base const label σ.list [] [] ≡ Err (record { number = n; line = x.line })
   unfolding emit
   emit-refused n e = sym m.goes ∙ rw e refl
 
   -- its words stand behind those before it, and its record has its address and its first word
-  module _ (vs : List ℕ) (e : emission const label x.item x.source.bytes ≡ value vs) where
+  module _ (vs : List ℕ) (e : emission const label x.item x.source.bytes ≡ Ok vs) where
     pub emit_next : (b' w' : List ℕ) → length b' ≡ length b → length w' ≡ length w
         → b' ≡ put (length done * item_size) (field_bytes (item_row (item_at base x (length ws)))) b → w' ≡ put (length ws) vs w
         → Emit base const label t σ (done ++ item_at base x (length ws) ∷ []) rest (ws ++ vs) b' w'
@@ -161,7 +161,6 @@ abbrev EmittingIn : Scope → (t i w : List ℕ) → ℕ → ℕ → Type 0
 EmittingIn z t i w k at = Emitting z.base (constant z.known) (label_address z.base z.state) t (items_in z) i w k at
 
 pub record EmitLoop (t l n : List ℕ) (c : ℕ) (e x : List ℕ) (m : ℕ) (starts : Starts) (i₀ : List ℕ) (count : ℕ) (w₀ i w : List ℕ) (k at : ℕ) : Type 0 where
-  pub within : k ≤ count
   pub items_sized : length i ≡ length i₀
   pub words_sized : length w ≡ length w₀
   pub emitting : (u : Unemitted t l n c e x m starts i₀ count w₀) → EmittingIn u.scope t i w k at
@@ -178,7 +177,6 @@ module _ {t l n : List ℕ} {c : ℕ} {e x : List ℕ} {m : ℕ} {starts : Start
   pub emit-first : EmitLoop t l n c e x m starts i₀ count w₀ i₀ w₀ 0 0
   emit-first =
       record {
-        within = omega arith;
         items_sized = refl;
         words_sized = refl;
         emitting = λ u.
@@ -201,9 +199,6 @@ module _ {t l n : List ℕ} {c : ℕ} {e x : List ℕ} {m : ℕ} {starts : Start
       }
 
   module _ (u : Unemitted t l n c e x m starts i₀ count w₀) where
-    pub emit_few : count ≤ item_limit
-    emit_few = omega (arith, u.items.counted, u.items.fits.few, u.items.limit)
-
     -- the room for all words
     words_room : ((items_in u.scope).words ≤ word_limit) × ((items_in u.scope).words ≤ length w₀)
     words_room = let f = u.items.fits in (omega (arith, f.room, u.items.word_limit), omega (arith, f.room, u.lent))
@@ -218,13 +213,13 @@ module _ {t l n : List ℕ} {c : ℕ} {e x : List ℕ} {m : ℕ} {starts : Start
       pub emit-within : at ≤ length w
       emit-within = omega (arith, so_far, words_room.1, p.words_sized)
 
-      pub emit_ends : count ≤ k → Agrees (EmitLeft i w) (value at) (emitted_in u.scope)
+      pub emit_ends : count ≤ k → Agrees (EmitLeft i w) (Ok at) (emitted_in u.scope)
       unfolding emit
       emit_ends h = by (p.emitting u).todo (p.emitting u).emit
         where
           by : (todo : List ItemLine)
               → Emit u.scope.base (constant u.scope.known) (label_address u.scope.base u.scope.state) t (items_in u.scope) (p.emitting u).done todo (p.emitting u).ws i w
-              → Agrees (EmitLeft i w) (value at) (emitted_in u.scope)
+              → Agrees (EmitLeft i w) (Ok at) (emitted_in u.scope)
           by [] v = rw (← v.goes) (record { counted = (p.emitting u).written; words = v.words; items = v.rows ∙ rw (append-nil (p.emitting u).done) refl })
           by (y ∷ ys) v = absurd (omega (arith, v.counted, (p.emitting u).place, u.items.counted, h))
 
@@ -254,7 +249,7 @@ module _ {t l n : List ℕ} {c : ℕ} {e x : List ℕ} {m : ℕ} {starts : Start
           source_is = let h = current in ap (λ (q : ItemRecord). spanned t (source_span q)) item-is ∙ item_source _ _ _ t _ h.done h.one h.rest h.ws i w h.emit
 
           -- what emitting it asks
-          pub item_record_fits : (n : ℕ) → n ≡ length w - at → Some (ItemRecordFits t n r)
+          pub item_record_fits : (n : ℕ) → n ≡ length w - at → Exists (ItemRecordFits t n r)
           item_record_fits n size =
               let h = current in
               record {
@@ -287,25 +282,25 @@ module _ {t l n : List ℕ} {c : ℕ} {e x : List ℕ} {m : ℕ} {starts : Start
             told : (a : Result ℕ ℕ) → Emitted_so d d' a → Agrees (WordsPut d d') a (emission_in u.scope current.one.item current.one.source.bytes)
             told a f = rw source_is at (f u.scope u.names current.one.item (ap (λ (q : ItemRecord). q.kind) item-is))
 
-            pub emit_stops : (number : ℕ) → Emitted_so d d' (refused number) → (i' w' : List ℕ)
-                → Agrees (EmitLeft i' w') (refused (record { number = number; line = r.line })) (emitted_in u.scope)
+            pub emit_stops : (number : ℕ) → Emitted_so d d' (Err number) → (i' w' : List ℕ)
+                → Agrees (EmitLeft i' w') (Err (record { number = number; line = r.line })) (emitted_in u.scope)
             emit_stops number f i' w' =
                 let h = current in
-                let e = agreed_refused (WordsPut d d') number (emission_in u.scope h.one.item h.one.source.bytes) (told (refused number) f) in
+                let e = agreed_refused (WordsPut d d') number (emission_in u.scope h.one.item h.one.source.bytes) (told (Err number) f) in
                 rw (emit-refused _ _ _ t _ h.done h.one h.rest h.ws i w h.emit number e) (λ j. record { number = number; line = (item-is j).line })
 
             -- the words that it emits
-            emitted : (n : ℕ) → Emitted_so d d' (value n) → Agreed (WordsPut d d') n (emission_in u.scope current.one.item current.one.source.bytes)
-            emitted n f = agreed (WordsPut d d') n (emission_in u.scope current.one.item current.one.source.bytes) (told (value n) f)
+            emitted : (n : ℕ) → Emitted_so d d' (Ok n) → Agreed (WordsPut d d') n (emission_in u.scope current.one.item current.one.source.bytes)
+            emitted n f = agreed (WordsPut d d') n (emission_in u.scope current.one.item current.one.source.bytes) (told (Ok n) f)
 
-            pub emit_more : (more-words : ℕ) → Emitted_so d d' (value more-words) → (at + more-words ≤ word_limit) × (at + more-words ≤ length w)
+            pub emit_more : (more-words : ℕ) → Emitted_so d d' (Ok more-words) → (at + more-words ≤ word_limit) × (at + more-words ≤ length w)
             emit_more n f =
                 let h = current in
                 let b = emitted n f in
                 let sized = emission-sized _ _ h.one.item h.one.source.bytes b.it b.is in
                 (omega (arith, b.stands.counted, sized, h.written, behind_it, words_room.0), omega (arith, b.stands.counted, sized, h.written, behind_it, words_room.1, p.words_sized))
 
-            pub emit_goes : (at' : ℕ) → Emitted_so d d' (value at') → d ≡ take (length w - at) (drop at w)
+            pub emit_goes : (at' : ℕ) → Emitted_so d d' (Ok at') → d ≡ take (length w - at) (drop at w)
                 → (a : ℕ) → ((q : PlaceCoded starts r.address) → a ≡ address_at q.base q.state q.place)
                 → (i' : List ℕ) → length i' ≡ length i
                 → i' ≡ put (k * item_size) (field_bytes (item_fields (record { address = a; line = r.line; kind = r.kind; first = at; start = r.start; len = r.len }))) i

@@ -7,7 +7,8 @@ use native.Mathlib.Omega.{arith}
 use lib.Dec.{eqb}
 use lib.ListN.{length, take, drop, length-drop}
 use borrow.Author.Tests.{eqb-false}
-use Rattle.numbers.specs.Results.{Result, value, refused, and_then}
+use Rattle.std.proofs.Common.{Result, Ok, Err}
+use Rattle.numbers.specs.Results.{and_then}
 use Rattle.numbers.specs.Text.{byte, leading, is_digit}
 use Rattle.numbers.specs.Numbers.{prefixed}
 use Rattle.layout.specs.Refusals.{Refusal}
@@ -25,10 +26,10 @@ use Rattle.layout.proofs.ResolveLaws.{TurnRefused, PassIs, pass-is}
 
 module _ (base : ℕ) (σ : State) where
   -- what follows a round, with so many turns left
-  abbrev after_pass : ℕ → ℕ → List Known → Turns → Result Refusal Turns
+  abbrev after_pass : ℕ → ℕ → List Known → Turns → Result Turns Refusal
   after_pass fuel r ks x =
       elim (eqb (pending_count x.known) (pending_count ks)) [
-        | true ↦ refused (unresolved x.known)
+        | true ↦ Err (unresolved x.known)
         | false ↦ rounds base σ fuel (suc r) x.known x.evaluations
       ]
 
@@ -43,22 +44,22 @@ module _ (base : ℕ) (σ : State) where
       last : (x : Turns) (c : Bool) → eqb (pending_count x.known) (pending_count ks) ≡ c → RoundTurns (turn base σ) r [] ks x.known
           → (pending_count x.known < a → pending_count x.known < b
           → rounds base σ a (suc r) x.known x.evaluations ≡ rounds base σ b (suc r) x.known x.evaluations)
-          → ◌≡◌ {A = Result Refusal Turns}
-          (elim c [ true ↦ refused (unresolved x.known) | false ↦ rounds base σ a (suc r) x.known x.evaluations ])
-          (elim c [ true ↦ refused (unresolved x.known) | false ↦ rounds base σ b (suc r) x.known x.evaluations ])
+          → ◌≡◌ {A = Result Turns Refusal}
+          (elim c [ true ↦ Err (unresolved x.known) | false ↦ rounds base σ a (suc r) x.known x.evaluations ])
+          (elim c [ true ↦ Err (unresolved x.known) | false ↦ rounds base σ b (suc r) x.known x.evaluations ])
       last x true q g ih = refl
       last x false q g ih =
           let fewer : pending_count x.known < pending_count ks =
           omega (arith, steps_fewer (turn base σ) g, eqb-false (pending_count x.known) (pending_count ks) q) in
           ih (omega arith) (omega arith)
 
-      by : (c : Bool) (x : Result Refusal Turns) → Comes (PassIs base σ r [] ks n) (TurnRefused base σ (map (λ k. k.equate) ks)) x
+      by : (c : Bool) (x : Result Turns Refusal) → Comes (PassIs base σ r [] ks n) (TurnRefused base σ (map (λ k. k.equate) ks)) x
           → ((ls : List Known) (m : ℕ) → pending_count ls < a → pending_count ls < b → rounds base σ a (suc r) ls m ≡ rounds base σ b (suc r) ls m)
-          → ◌≡◌ {A = Result Refusal Turns} (elim c [ true ↦ value (turns ks n) | false ↦ and_then x (after_pass a r ks) ])
-          (elim c [ true ↦ value (turns ks n) | false ↦ and_then x (after_pass b r ks) ])
+          → ◌≡◌ {A = Result Turns Refusal} (elim c [ true ↦ Ok (turns ks n) | false ↦ and_then x (after_pass a r ks) ])
+          (elim c [ true ↦ Ok (turns ks n) | false ↦ and_then x (after_pass b r ks) ])
       by true x g ih = refl
-      by false (refused m) g ih = refl
-      by false (value x) g ih = last x (eqb (pending_count x.known) (pending_count ks)) refl (rw (← g.are) at g.steps) (ih x.known x.evaluations)
+      by false (Err m) g ih = refl
+      by false (Ok x) g ih = last x (eqb (pending_count x.known) (pending_count ks)) refl (rw (← g.are) at g.steps) (ih x.known x.evaluations)
 
   -- one turn more than there are equates is enough
   pub enough : (es : List Equate) (m : ℕ) → rounds base σ (suc (length es) + m) 1 (map pending_equate es) 0 ≡ resolve base σ es

@@ -6,7 +6,7 @@ use mathlib.Core.List.{List, [], ◌∷◌}
 use lib.ListN.{length, length-append}
 use lib.IntN.{pos}
 use borrow.Author.Tests.{le-ltb, lt-ltb}
-use Rattle.numbers.specs.Results.{value, refused}
+use Rattle.std.proofs.Common.{Ok, Err}
 use Rattle.layout.specs.declared.limits.Room.{Room}
 use Rattle.layout.specs.declared.line.EquateParts.{EquateParts}
 use Rattle.layout.specs.declared.state.Place.{Place}
@@ -44,7 +44,7 @@ expr_code place p = record { start = p.expr.start; len = p.expr.len; one_space =
 
 module _ (t : List ℕ) (k : Room) (n : ℕ) (e x e' x' : List ℕ) where
   pub equate_stops : (y : Equate) → k.equates ≤ n
-      → Steps (EquatesStand t k) n (equate_store e x) (refused 46) (equate_store e' x') (add_equate k y)
+      → Steps (EquatesStand t k) n (equate_store e x) (Err 46) (equate_store e' x') (add_equate k y)
   unfolding add_equate
   equate_stops y h es s = rw (add_equate, le-ltb (length es) k.equates (omega (arith, s.counted))) refl
 
@@ -52,7 +52,7 @@ module _ (t : List ℕ) (k : Room) (n : ℕ) (e x e' x' : List ℕ) where
     pub equate_goes : PlaceFits place → line < length t → SpanWithin t p.name → SpanWithin t p.expr → n < k.equates
         → e' ≡ put (n * equate_size) (field_bytes (equate_fields (equate_code line p))) e
         → x' ≡ put (n * expr_size) (field_bytes (expr_fields (expr_code place p))) x
-        → Steps (EquatesStand t k) n (equate_store e x) (value (n + 1)) (equate_store e' x') (add_equate k (equate_at t place line p))
+        → Steps (EquatesStand t k) n (equate_store e x) (Ok (n + 1)) (equate_store e' x') (add_equate k (equate_at t place line p))
     unfolding add_equate
     equate_goes fits below w v h g f es s =
         let y = equate_at t place line p in

@@ -4,7 +4,7 @@ use Prim.Native.Nat.{ℕ}
 use mathlib.Core.Path.{◌≡◌, refl, sym, ◌∙◌, ap, ap₂, subst}
 use mathlib.Core.List.{List, [], ◌∷◌, ◌++◌, map, append_assoc}
 use mathlib.Core.Bool.{Bool, true, false, ◌||◌, true≢false}
-use mathlib.Core.Option.{Option, none, some}
+use Rattle.std.proofs.Common.{Option, None, Some}
 use lib.IntN.{ℤ}
 use Rattle.numbers.specs.Text.{same}
 use Rattle.numbers.proofs.Bools.{none-some, or_left, or_right}
@@ -32,14 +32,14 @@ value-recorded [] n = refl
 value-recorded (k ∷ ks) n = by k.found (same (known_name k) n) refl (value-recorded ks n)
   where
     here : Found → Bool → Option ℤ
-    here f c = elim c [ true ↦ some f.value | false ↦ recorded_value (found_equates ks) n ]
+    here f c = elim c [ true ↦ Some f.value | false ↦ recorded_value (found_equates ks) n ]
 
     by : (o : Option Found) (c : Bool) → same (known_name k) n ≡ c → recorded_value (found_equates ks) n ≡ constant ks n
         → recorded_value (cons_found k o (found_equates ks)) n ≡ elim c [ true ↦ or_else (found_value o) (constant ks n) | false ↦ constant ks n ]
-    by none true e h = h
-    by none false e h = h
-    by (some f) true e h = ap (here f) e
-    by (some f) false e h = ap (here f) e ∙ h
+    by None true e h = h
+    by None false e h = h
+    by (Some f) true e h = ap (here f) e
+    by (Some f) false e h = ap (here f) e ∙ h
 
 -- ---- labels looked up
 
@@ -57,17 +57,17 @@ insert-other n x (y ∷ ys) h g = by (less_label x y) (insert-other n x ys h g.1
 
 -- a label put in its order among others of other names is found as if it stood first
 insert_address : (n : List ℕ) (x : LabelAt) (ys : List LabelAt) → Each (Other x.name.bytes) ys
-    → recorded_address (insert x ys) n ≡ elim (same x.name.bytes n) [ true ↦ some x.address | false ↦ recorded_address ys n ]
+    → recorded_address (insert x ys) n ≡ elim (same x.name.bytes n) [ true ↦ Some x.address | false ↦ recorded_address ys n ]
 unfolding insert recorded_address
 insert_address n x [] g = refl
 insert_address n x (y ∷ ys) g =
     by (less_label x y) (same x.name.bytes n) refl (same y.name.bytes n) refl (insert_address n x ys g.1)
   where
     A : Option ℕ
-    A = some x.address
+    A = Some x.address
 
     B : Option ℕ
-    B = some y.address
+    B = Some y.address
 
     W : List LabelAt → Option ℕ
     W zs = recorded_address zs n
@@ -113,26 +113,26 @@ module _ (base : ℕ) (σ : State) where
   address_recorded n [] g = refl
   address_recorded n (l ∷ ls) g =
       insert_address n (placed base σ l) (ordered (map (placed base σ) ls)) (others l.name.bytes ls g.0)
-      ∙ ap (λ (o : Option ℕ). pick (same l.name.bytes n) (some (address_at base σ l.place)) o) (address_recorded n ls g.1)
+      ∙ ap (λ (o : Option ℕ). pick (same l.name.bytes n) (Some (address_at base σ l.place)) o) (address_recorded n ls g.1)
     where
       pick : Bool → Option ℕ → Option ℕ → Option ℕ
       pick c a b = elim c [ true ↦ a | false ↦ b ]
 
   -- a label of a name that no other has is found by it
-  pub address_among : {x : Label} {ls : List Label} → Apart ls → Among x ls → address_in base σ ls x.name.bytes ≡ some (address_at base σ x.place)
+  pub address_among : {x : Label} {ls : List Label} → Apart ls → Among x ls → address_in base σ ls x.name.bytes ≡ Some (address_at base σ x.place)
   unfolding address_in
   address_among {x = x} g first = rw (address_in, same_refl x.name.bytes) refl
   address_among {x = x} g (later {y = y} {xs = ls} a) = by (same y.name.bytes x.name.bytes) refl (address_among g.1 a)
     where
-      by : (c : Bool) → same y.name.bytes x.name.bytes ≡ c → address_in base σ ls x.name.bytes ≡ some (address_at base σ x.place)
-          → elim c [ true ↦ some (address_at base σ y.place) | false ↦ address_in base σ ls x.name.bytes ] ≡ some (address_at base σ x.place)
+      by : (c : Bool) → same y.name.bytes x.name.bytes ≡ c → address_in base σ ls x.name.bytes ≡ Some (address_at base σ x.place)
+          → elim c [ true ↦ Some (address_at base σ y.place) | false ↦ address_in base σ ls x.name.bytes ] ≡ Some (address_at base σ x.place)
       by true e h =
           absurd (true≢false (sym (among_label a) ∙ ap (λ (n : List ℕ). is_label n ls) (sym (same_equal y.name.bytes x.name.bytes e)) ∙ g.0))
       by false e h = h
 
 -- ---- each equate
 
-found_last : (done : List Known) (k : Known) (f : Found) → k.found ≡ some f
+found_last : (done : List Known) (k : Known) (f : Found) → k.found ≡ Some f
     → found_equates (done ++ k ∷ []) ≡ found_equates done ++ equate_record_of k f ∷ []
 unfolding found_equates
 found_last [] k f e = rw e refl
@@ -140,16 +140,16 @@ found_last (d ∷ done) k f e = by d.found (found_last done k f e)
   where
     by : (o : Option Found) → found_equates (done ++ k ∷ []) ≡ found_equates done ++ equate_record_of k f ∷ []
         → cons_found d o (found_equates (done ++ k ∷ [])) ≡ cons_found d o (found_equates done) ++ equate_record_of k f ∷ []
-    by none h = h
-    by (some g) h = ap (λ rs. equate_record_of d g ∷ rs) h
+    by None h = h
+    by (Some g) h = ap (λ rs. equate_record_of d g ∷ rs) h
 
 module _ (base : ℕ) (σ : State) (R : ℕ) (F : List Known) (H : History (turn base σ) R F) (all : Each IsFound F)
     (l : Layout) (equates : l.equates ≡ found_equates F) (labels : (n : List ℕ) → recorded_address l.labels n ≡ label_address base σ n) where
-  final : (n : List ℕ) (v : ℤ) → look base σ F n ≡ some v → final_value l n ≡ some v
+  final : (n : List ℕ) (v : ℤ) → look base σ F n ≡ Some v → final_value l n ≡ Some v
   final n v e =
       ap₂ or_else (ap (λ (rs : List EquateAt). recorded_value rs n) equates ∙ value-recorded F n) (ap as_number (labels n)) ∙ e
 
-  equate-holds : (done : List Known) (k : Known) (ks : List Known) → F ≡ done ++ k ∷ ks → (f : Found) → k.found ≡ some f
+  equate-holds : (done : List Known) (k : Known) (ks : List Known) → F ≡ done ++ k ∷ ks → (f : Found) → k.found ≡ Some f
       → EquateHolds base σ l k.equate (found_equates done) (equate_record_of k f) (found_equates ks)
   equate-holds done k ks are f is =
       let E = own_evaluator base σ in
@@ -176,12 +176,12 @@ module _ (base : ℕ) (σ : State) (R : ℕ) (F : List Known) (H : History (turn
       Rest : List EquateAt → Type 0
       Rest above = OneByOne (EquateHolds base σ l) (map (λ k. k.equate) ks) above (found_equates ks)
 
-      by : (o : Option Found) → o ≡ some g.0.0 → Rest (found_equates (done ++ k ∷ []))
+      by : (o : Option Found) → o ≡ Some g.0.0 → Rest (found_equates (done ++ k ∷ []))
           → OneByOne (EquateHolds base σ l) (k.equate ∷ map (λ k. k.equate) ks) (found_equates done) (cons_found k o (found_equates ks))
-      by none p h = absurd (none-some p)
-      by (some f) p h =
+      by None p h = absurd (none-some p)
+      by (Some f) p h =
           let q : f ≡ g.0.0 = cc in
-          let e : k.found ≡ some f = g.0.1 ∙ ap some (sym q) in
+          let e : k.found ≡ Some f = g.0.1 ∙ ap Some (sym q) in
           (equate-holds done k ks are f e, subst Rest (found_last done k f e) h)
 
   pub equates_hold : OneByOne (EquateHolds base σ l) (map (λ k. k.equate) F) [] l.equates

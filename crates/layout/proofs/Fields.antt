@@ -3,14 +3,15 @@ use Prim.Native.Nat.{ℕ, suc, ◌+◌, ◌-◌, ◌^◌, min, ◌≤◌, ◌<�
 use mathlib.Core.Path.{◌≡◌, refl, sym, ◌∙◌, ap}
 use mathlib.Core.List.{List, [], ◌∷◌, ◌++◌, map, Permᴰ}
 use mathlib.Core.Bool.{Bool, true, false, cond, not}
-use mathlib.Core.Option.{Option, none, some}
+use Rattle.std.proofs.Common.{Option, None, Some}
 use native.Mathlib.Nat.{zero-add}
 use native.Mathlib.Omega.{arith}
 use lib.Dec.{ltb, leb, eqb}
 use lib.IntN.{ℤ, pos, negsuc, ◌+ℤ◌}
 use lib.ListN.{length, length-append, length-replicate, length-map}
 use borrow.Author.Tests.{lt-ltb, le-ltb, ltb-false, leb-true}
-use Rattle.numbers.specs.Results.{Result, value, refused, and_then}
+use Rattle.std.proofs.Common.{Result, Ok, Err}
+use Rattle.numbers.specs.Results.{and_then}
 use Rattle.numbers.specs.Ints.{in64, fit64, sign_times, bits, signed_of}
 use Rattle.numbers.proofs.Bools.{and_left}
 use Rattle.numbers.proofs.Readings.{fit_in64}
@@ -51,16 +52,16 @@ use Rattle.layout.proofs.ResolveLaws.{RoundsRefused, by_turn, by_end, all_end}
 
 -- an expression's value is within 64 signed bits
 abbrev pub ValueFits : Evaluated → Type 0
-ValueFits (value (some z)) = in64 z ≡ true
-ValueFits (value none) = Unit
-ValueFits (refused n) = Unit
+ValueFits (Ok (Some z)) = in64 z ≡ true
+ValueFits (Ok None) = Unit
+ValueFits (Err n) = Unit
 
 on_fit_lem : (y : ℤ) (f : ℤ → Evaluated) → ((z : ℤ) → in64 z ≡ true → ValueFits (f z)) → ValueFits (on_fit (fit64 y) f)
 on_fit_lem y f g = by (fit64 y) refl
   where
     by : (o : Option ℤ) → fit64 y ≡ o → ValueFits (on_fit o f)
-    by none e = tt
-    by (some z) e = g z (fit_in64 y z e)
+    by None e = tt
+    by (Some z) e = g z (fit_in64 y z e)
 
 add_term_lem : (sum : ℤ) (joining own : Bool) (y : ℤ) (f : ℤ → Evaluated) → ((z : ℤ) → in64 z ≡ true → ValueFits (f z))
     → ValueFits (add_term sum joining own y f)
@@ -78,8 +79,8 @@ sum_fits look here sum (term joining own) (name n ∷ ts) h = by (look n) (λ z.
   where
     by : (o : Option ℤ) → ((z : ℤ) → in64 z ≡ true → ValueFits (sum_from look here z joint ts))
         → ValueFits (on_name o (λ v. add_term sum joining own v (λ z. sum_from look here z joint ts)))
-    by none g = tt
-    by (some v) g = add_term_lem sum joining own v _ g
+    by None g = tt
+    by (Some v) g = add_term_lem sum joining own v _ g
 sum_fits look here sum (term joining own) (unreadable ∷ ts) h = tt
 sum_fits look here sum joint (plus ∷ ts) h = sum_fits look here sum (term positive positive) ts h
 sum_fits look here sum joint (minus ∷ ts) h = sum_fits look here sum (term negative positive) ts h
@@ -92,7 +93,7 @@ pub evaluate_fits : (look : List ℕ → Option ℤ) (here : ℤ) (s : List ℕ)
 unfolding evaluate
 evaluate_fits look here s = by (any_unreadable (tokens s))
   where
-    by : (c : Bool) → ValueFits (cond c (refused 16) (sum_from look here (pos 0) (term positive positive) (tokens s)))
+    by : (c : Bool) → ValueFits (cond c (Err 16) (sum_from look here (pos 0) (term positive positive) (tokens s)))
     by true = tt
     by false = sum_fits look here (pos 0) (term positive positive) (tokens s) refl
 
@@ -103,7 +104,7 @@ turn_fits base σ ks e = by (is_label e.name.bytes σ.labels) (is_some (constant
     v : Evaluated
     v = evaluate (look base σ ks) (pos (address_at base σ e.place)) (expr_text e.expr)
 
-    by : (a b : Bool) → ValueFits (elim a [ true ↦ refused 14 | false ↦ elim b [ true ↦ refused 15 | false ↦ v ] ])
+    by : (a b : Bool) → ValueFits (elim a [ true ↦ Err 14 | false ↦ elim b [ true ↦ Err 15 | false ↦ v ] ])
     by true b = tt
     by false true = tt
     by false false = evaluate_fits (look base σ ks) (pos (address_at base σ e.place)) (expr_text e.expr)
@@ -141,8 +142,8 @@ module _ (t : List ℕ) where
       (by (look w.name)) (λ bs i. fill_fits look ws n bs i g.1)
     where
       by : (o : Option ℕ) → Comes (λ bs. length bs ≡ n) InText (at_line w.line (fill_one o w bytes))
-      by none = g.0.line
-      by (some a) = length-put w.at (little_endian 4 a) bytes (omega (arith, length-little_endian 4 a, e, g.0.place)) ∙ e
+      by None = g.0.line
+      by (Some a) = length-put w.at (little_endian 4 a) bytes (omega (arith, length-little_endian 4 a, e, g.0.place)) ∙ e
 
   -- m words, and the items' records, where is were there before
   pub record EmitsFit (m : ℕ) (xs : List ItemLine) (is : List ItemAt) (x : Emitted) : Type 0 where
@@ -173,10 +174,10 @@ module _ (t : List ℕ) where
         is' : List ItemAt
         is' = is ++ y ∷ []
 
-        line_fits : (e : Result ℕ (List ℕ)) → Comes (WordsFit x.item s) PseudoRefusal e
+        line_fits : (e : Result (List ℕ) ℕ) → Comes (WordsFit x.item s) PseudoRefusal e
             → Comes (WordsFit x.item s) InText (at_line x.line e)
-        line_fits (value vs) f = f
-        line_fits (refused n) f = g.0.line
+        line_fits (Ok vs) f = f
+        line_fits (Err n) f = g.0.line
 
         each : (vs : List ℕ) → WordsFit x.item s vs → Each (ItemAtFits t (length (ws ++ vs))) is'
         each vs f =
@@ -229,7 +230,7 @@ module _ (t : List ℕ) (base : ℕ) (σ : State) (n : ℕ) where
   -- a value of 64 signed bits, found in a round from 1 to n
   record ValueIn (k : Known) : Type 0 where
     found : Found
-    is : k.found ≡ some found
+    is : k.found ≡ Some found
     from : 1 ≤ found.round
     to : found.round ≤ n
     value : in64 found.value ≡ true
@@ -337,13 +338,13 @@ module _ (t : List ℕ) (short : length t ≤ text_limit) (base : ℕ) (low : ba
         let n = length own.stored.bytes in
         let all : List ℕ → Turns → Emitted → Layout = layout base σ in
         let found_all : Turns → Type 0 = λ x. AllFound (turn base σ) es x.known x.evaluations in
-        let emitting : Turns → Result Refusal Emitted = λ x. emit base (constant x.known) label own.items.list [] [] in
+        let emitting : Turns → Result Emitted Refusal = λ x. emit base (constant x.known) label own.items.list [] [] in
         and_then_comes (λ bs. length bs ≡ n) (LayoutFits t k) (InText t) (fill label own.stored.label_words own.stored.bytes)
-        (λ bytes. and_then (resolve base σ es) (λ x. and_then (emitting x) (λ e. value (all bytes x e))))
+        (λ bytes. and_then (resolve base σ es) (λ x. and_then (emitting x) (λ e. Ok (all bytes x e))))
         (fill_fits t label own.stored.label_words n own.stored.bytes refl f.rest.own.stored.each) (λ bytes b.
-        and_then_comes found_all (LayoutFits t k) (InText t) (resolve base σ es) (λ x. and_then (emitting x) (λ e. value (all bytes x e)))
+        and_then_comes found_all (LayoutFits t k) (InText t) (resolve base σ es) (λ x. and_then (emitting x) (λ e. Ok (all bytes x e)))
         (comes_so found_all found_all (RoundsRefused base σ es) (InText t) (λ x d. d) rounds_line (resolve base σ es) (all_end base σ es)) (λ x d.
-        and_then_comes (EmitsFit t own.items.words own.items.list []) (LayoutFits t k) (InText t) (emitting x) (λ e. value (all bytes x e))
+        and_then_comes (EmitsFit t own.items.words own.items.list []) (LayoutFits t k) (InText t) (emitting x) (λ e. Ok (all bytes x e))
         (emit_fits t base low (constant x.known) label own.items.words own.items.list [] [] f.rest.own.items.consecutive
         f.rest.own.items.each tt tt)
         (accepted_fits bytes b x d)))
@@ -359,7 +360,7 @@ check_bytes_lem line (b ∷ bs) = by (ltb 127 b) (eqb b 10) (λ l. check_bytes_l
 
     by : (c d : Bool) → ((l : ℕ) → Comes (λ _. Unit) (Below (l + length bs)) (check_bytes l bs))
         → Comes {A = Unit} (λ _. Unit) (Below (line + suc (length bs)))
-        (elim c [ true ↦ refused (record { number = 1; line = line }) | false ↦ check_bytes (cond d (suc line) line) bs ])
+        (elim c [ true ↦ Err (record { number = 1; line = line }) | false ↦ check_bytes (cond d (suc line) line) bs ])
     by true d more = omega arith
     by false d more =
         let l = cond d (suc line) line in
@@ -389,10 +390,10 @@ layout_fits t base k =
     and_then_comes (Fits t (room_of k)) (LayoutFits t k) (InText t) (line_stage (room_of k) 0 (line_pieces 0 (lines t)) start) (after_lines base)
     (stage_fits t k) (λ σ f. after_lines_fits t (ltb-false text_limit (length t) short) base (ltb-false base_limit base low) k σ f)))))
   where
-    staged : Result Refusal Layout
+    staged : Result Layout Refusal
     staged = and_then (line_stage (room_of k) 0 (line_pieces 0 (lines t)) start) (after_lines base)
 
-    reading : Result Refusal Layout
+    reading : Result Layout Refusal
     reading = and_then (check_bytes 0 t) (λ _. staged)
 
 -- ---- the records' fields
@@ -466,8 +467,8 @@ pub answer_fits : (t : List ℕ) (base : ℕ) (k : Lent) → AnswerFits t k (cal
 unfolding little_endian field_bytes
 answer_fits t base k = by (layout_of t base k) (layout_fits t base k)
   where
-    by : (o : Result Refusal Layout) → Comes (LayoutFits t k) (LineFits t) o → AnswerFits t k (answer_of k o)
-    by (value l) f =
+    by : (o : Result Layout Refusal) → Comes (LayoutFits t k) (LineFits t) o → AnswerFits t k (answer_of k o)
+    by (Ok l) f =
         record {
           line = omega arith;
           counts = record {
@@ -488,7 +489,7 @@ answer_fits t base k = by (layout_of t base k) (layout_fits t base k)
             items = table_length item_row item_size (λ x. refl) k.item_bytes l.items (omega (arith, f.items));
           };
         }
-    by (refused r) f =
+    by (Err r) f =
         record {
           line = f;
           counts = record {

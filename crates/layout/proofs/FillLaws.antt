@@ -3,11 +3,12 @@ use Prim.Native.Nat.{ℕ, ◌+◌, ◌^◌, ◌≤◌, ◌<◌}
 use mathlib.Core.Path.{◌≡◌, refl, sym, ◌∙◌, ap, subst}
 use mathlib.Core.List.{List, [], ◌∷◌, ◌++◌}
 use mathlib.Core.Bool.{Bool, true, false}
-use mathlib.Core.Option.{Option, none, some}
+use Rattle.std.proofs.Common.{Option, None, Some}
 use native.Mathlib.Omega.{arith}
 use lib.ListN.{length, take, drop, length-append}
 use lib.Seq.{length-take-le, take-append-le, take-take, take-add, take_at, drop_at}
-use Rattle.numbers.specs.Results.{value, and_then}
+use Rattle.std.proofs.Common.{Ok}
+use Rattle.numbers.specs.Results.{and_then}
 use Rattle.numbers.specs.Text.{same}
 use Rattle.numbers.proofs.Bools.{none-some}
 use Rattle.layout.specs.Bytes.{little_endian, put}
@@ -45,17 +46,17 @@ word-length w a bytes h = length-put w.at (little_endian 4 a) bytes (omega (arit
 
 module _ (look : List ℕ → Option ℕ) where
   -- what stands below the label words stays
-  fill_below : (n : ℕ) (ws : List LabelWord) (bytes last : List ℕ) → Spread n ws (length bytes) → fill look ws bytes ≡ value last
+  fill_below : (n : ℕ) (ws : List LabelWord) (bytes last : List ℕ) → Spread n ws (length bytes) → fill look ws bytes ≡ Ok last
       → (take n last ≡ take n bytes) × (length last ≡ length bytes)
   unfolding fill
   fill_below n [] bytes last g e = (ap (take n) (sym (value_same e)), ap length (sym (value_same e)))
   fill_below n (w ∷ ws) bytes last g e = by (look w.name) e (λ m i. fill_below m ws i last)
     where
-      by : (o : Option ℕ) → and_then (at_line w.line (fill_one o w bytes)) (fill look ws) ≡ value last
-          → ((m : ℕ) (i : List ℕ) → Spread m ws (length i) → fill look ws i ≡ value last → (take m last ≡ take m i) × (length last ≡ length i))
+      by : (o : Option ℕ) → and_then (at_line w.line (fill_one o w bytes)) (fill look ws) ≡ Ok last
+          → ((m : ℕ) (i : List ℕ) → Spread m ws (length i) → fill look ws i ≡ Ok last → (take m last ≡ take m i) × (length last ≡ length i))
           → (take n last ≡ take n bytes) × (length last ≡ length bytes)
-      by none e more = absurd (refused-value e)
-      by (some a) e more =
+      by None e more = absurd (refused-value e)
+      by (Some a) e more =
           let next = put w.at (little_endian 4 a) bytes in
           let room : w.at + 4 ≤ length bytes = spread_within (w.at + 4) ws (length bytes) g.1 in
           let long = word-length w a bytes room in
@@ -67,19 +68,19 @@ module _ (look : List ℕ → Option ℕ) where
 
   -- a label word holds the address that is looked up
   abbrev pub WordHolds : List ℕ → LabelWord → Type 0
-  WordHolds last w = (a : ℕ) × (look w.name ≡ some a) × (take 4 (drop w.at last) ≡ little_endian 4 a)
+  WordHolds last w = (a : ℕ) × (look w.name ≡ Some a) × (take 4 (drop w.at last) ≡ little_endian 4 a)
 
-  pub fill_holds : (n : ℕ) (ws : List LabelWord) (bytes last : List ℕ) → Spread n ws (length bytes) → fill look ws bytes ≡ value last
+  pub fill_holds : (n : ℕ) (ws : List LabelWord) (bytes last : List ℕ) → Spread n ws (length bytes) → fill look ws bytes ≡ Ok last
       → Each (WordHolds last) ws
   unfolding fill
   fill_holds n [] bytes last g e = tt
   fill_holds n (w ∷ ws) bytes last g e = by (look w.name) refl e (λ i. fill_holds (w.at + 4) ws i last)
     where
-      by : (o : Option ℕ) → look w.name ≡ o → and_then (at_line w.line (fill_one o w bytes)) (fill look ws) ≡ value last
-          → ((i : List ℕ) → Spread (w.at + 4) ws (length i) → fill look ws i ≡ value last → Each (WordHolds last) ws)
+      by : (o : Option ℕ) → look w.name ≡ o → and_then (at_line w.line (fill_one o w bytes)) (fill look ws) ≡ Ok last
+          → ((i : List ℕ) → Spread (w.at + 4) ws (length i) → fill look ws i ≡ Ok last → Each (WordHolds last) ws)
           → Each (WordHolds last) (w ∷ ws)
-      by none q e more = absurd (refused-value e)
-      by (some a) q e more =
+      by None q e more = absurd (refused-value e)
+      by (Some a) q e more =
           let next = put w.at (little_endian 4 a) bytes in
           let four : length (little_endian 4 a) ≡ 4 = length-little_endian 4 a in
           let room : w.at + 4 ≤ length bytes = spread_within (w.at + 4) ws (length bytes) g.1 in
@@ -101,12 +102,12 @@ module _ (look : List ℕ → Option ℕ) where
 
 -- a label's address is below 2^32
 pub address_below : (t : List ℕ) (base : ℕ) (σ : State) (ls : List Label) (n : List ℕ) (a : ℕ) → base ≤ base_limit
-    → length σ.rest.own.stored.bytes ≤ data_limit → Each (LabelFits t) ls → address_in base σ ls n ≡ some a → a < 2 ^ 32
+    → length σ.rest.own.stored.bytes ≤ data_limit → Each (LabelFits t) ls → address_in base σ ls n ≡ Some a → a < 2 ^ 32
 unfolding address_in
 address_below t base σ [] n a low short g e = absurd (none-some e)
 address_below t base σ (l ∷ ls) n a low short g e = by (same l.name.bytes n) e (address_below t base σ ls n a low short g.1)
   where
-    by : (c : Bool) → elim c [ true ↦ some (address_at base σ l.place) | false ↦ address_in base σ ls n ] ≡ some a
-        → (address_in base σ ls n ≡ some a → a < 2 ^ 32) → a < 2 ^ 32
+    by : (c : Bool) → elim c [ true ↦ Some (address_at base σ l.place) | false ↦ address_in base σ ls n ] ≡ Some a
+        → (address_in base σ ls n ≡ Some a → a < 2 ^ 32) → a < 2 ^ 32
     by true e more = let q : address_at base σ l.place ≡ a = cc in rw (← q) (place_below base σ l.place low short g.0.place)
     by false e more = more e

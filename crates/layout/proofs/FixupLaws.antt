@@ -4,10 +4,10 @@ use native.Mathlib.Numerals.{add-one}
 use native.Mathlib.Omega.{arith}
 use mathlib.Core.Path.{◌≡◌, refl, sym, ap, ◌∙◌}
 use mathlib.Core.List.{List, ◌∷◌}
-use mathlib.Core.Option.{Option, none, some}
+use Rattle.std.proofs.Common.{Option, None, Some}
 use lib.ListN.{length, drop, get_or, length-map, drop_of_length-le, get_or-map}
 use lib.Seq.{drop-cons}
-use Rattle.numbers.specs.Results.{Result, value, refused}
+use Rattle.std.proofs.Common.{Result, Ok, Err}
 use Rattle.layout.specs.declared.limits.Room.{Room}
 use Rattle.layout.specs.declared.records.LabelWordRecord.{LabelWordRecord}
 use Rattle.layout.specs.declared.state.DataCount.{DataCount}
@@ -83,11 +83,11 @@ module _ {look : List ℕ → Option ℕ} {ws : List LabelWord} {bytes₀ d : Li
     left : drop i ws ≡ w ∷ drop (i + 1) ws
     left = rw (e, add-one i) (drop-cons ws i x below)
 
-    filling_stops : none ≡ look w.name → fill look ws bytes₀ ≡ refused (record { number = 13; line = w.line })
+    filling_stops : None ≡ look w.name → fill look ws bytes₀ ≡ Err (record { number = 13; line = w.line })
     unfolding fill
     filling_stops h = rw (← m.goes, left, fill, ← h) refl
 
-    filling_goes : (a : ℕ) → some a ≡ look w.name → w.at + 4 ≤ length bytes₀ → (d' : List ℕ) → length d' ≡ length d
+    filling_goes : (a : ℕ) → Some a ≡ look w.name → w.at + 4 ≤ length bytes₀ → (d' : List ℕ) → length d' ≡ length d
         → d' ≡ put w.at (little_endian 4 a) d → Filling look ws bytes₀ d' (i + 1)
     unfolding fill
     filling_goes a h within d' size is =
@@ -100,36 +100,34 @@ module _ {look : List ℕ → Option ℕ} {ws : List LabelWord} {bytes₀ d : Li
           goes = sym (rw (left, fill, ← h) refl) ∙ m.goes;
         }
 
-  filling_ends : length ws ≤ i → fill look ws bytes₀ ≡ value m.bytes
+  filling_ends : length ws ≤ i → fill look ws bytes₀ ≡ Ok m.bytes
   unfolding fill
   filling_ends h = rw (← m.goes, drop_of_length-le ws {i = i} h) refl
 
 -- ---- in the code: d was d₀, whatever that and the records of label words and labels stood for
 
 pub record Fixing (t l n : List ℕ) (count : ℕ) (w : List ℕ) (words : ℕ) (d₀ d : List ℕ) (i : ℕ) : Type 0 where
-  pub within : i ≤ words
   pub sized : length d ≡ length d₀
   pub filling : (u : Unfilled t l n count w words d₀)
       → Filling (label_address u.base u.state) u.state.rest.own.stored.label_words u.state.rest.own.stored.bytes d i
 
 module _ {t l n : List ℕ} {count : ℕ} {w : List ℕ} {words : ℕ} {d₀ : List ℕ} where
   -- what filling them comes to
-  abbrev filled : Unfilled t l n count w words d₀ → Result Refusal (List ℕ)
+  abbrev filled : Unfilled t l n count w words d₀ → Result (List ℕ) Refusal
   filled u = fill (label_address u.base u.state) u.state.rest.own.stored.label_words u.state.rest.own.stored.bytes
 
   pub fixing_first : Fixing t l n count w words d₀ d₀ 0
   fixing_first =
       record {
-        within = omega arith;
         sized = refl;
         filling = λ u. record { bytes = u.state.rest.own.stored.bytes; sized = refl; stored = u.stored.bytes; goes = refl };
       }
 
   module _ {d : List ℕ} {i : ℕ} (m : Fixing t l n count w words d₀ d i) where
-    pub fixing_ends : words ≤ i → (u : Unfilled t l n count w words d₀) → Agrees (FillLeft words d) (value i) (filled u)
+    pub fixing_ends : words ≤ i → (u : Unfilled t l n count w words d₀) → Agrees (FillLeft words d) (Ok words) (filled u)
     fixing_ends h u =
         rw (filling_ends (m.filling u) (omega (arith, u.stored.label_words.counted)))
-        (record { counted = omega (arith, m.within); stored = (m.filling u).stored })
+        (record { counted = refl; stored = (m.filling u).stored })
 
     module _ (more : i < words) where
       pub fixing_within : Unfilled t l n count w words d₀ → i * label_word_size + label_word_size ≤ length w
@@ -145,17 +143,16 @@ module _ {t l n : List ℕ} {count : ℕ} {w : List ℕ} {words : ℕ} {d₀ : L
             omega (arith, word_fits u.stored u.labels.table.text i more r e, u.stored.fits.room, u.stored.lent, m.sized)
 
         module _ (name : List ℕ) (is : name ≡ (label_word_of t r).name) where
-          pub fixing_stops : ((base : ℕ) (σ : State) → LabelsPlaced t base σ count (label_store l n) → none ≡ label_address base σ name)
-              → (u : Unfilled t l n count w words d₀) → Agrees (FillLeft words d) (refused (record { number = 13; line = r.line })) (filled u)
+          pub fixing_stops : ((base : ℕ) (σ : State) → LabelsPlaced t base σ count (label_store l n) → None ≡ label_address base σ name)
+              → (u : Unfilled t l n count w words d₀) → Agrees (FillLeft words d) (Err (record { number = 13; line = r.line })) (filled u)
           fixing_stops unknown u =
               rw (filling_stops (m.filling u) _ (label_word_of t r) (word_of u) (omega (arith, u.stored.label_words.counted))
               (rw is at (unknown u.base u.state u.labels))) refl
 
-          pub fixing_goes : (a : ℕ) → ((base : ℕ) (σ : State) → LabelsPlaced t base σ count (label_store l n) → some a ≡ label_address base σ name)
+          pub fixing_goes : (a : ℕ) → ((base : ℕ) (σ : State) → LabelsPlaced t base σ count (label_store l n) → Some a ≡ label_address base σ name)
               → (d' : List ℕ) → length d' ≡ length d → d' ≡ put r.at (little_endian 4 a) d → Fixing t l n count w words d₀ d' (i + 1)
           fixing_goes a known d' size written =
               record {
-                within = omega arith;
                 sized = size ∙ m.sized;
                 filling = λ u. filling_goes (m.filling u) _ (label_word_of t r) (word_of u) (omega (arith, u.stored.label_words.counted)) a
                     (rw is at (known u.base u.state u.labels)) (word_fits u.stored u.labels.table.text i more r e) d' size written;

@@ -9,7 +9,7 @@ use native.Mathlib.Omega.{arith}
 use lib.IntN.{ℤ}
 use lib.ListN.{length, take, drop}
 use lib.Seq.{take_at, drop_at, drop-drop}
-use Rattle.numbers.specs.Results.{Result, value, refused}
+use Rattle.std.proofs.Common.{Result, Ok, Err}
 use Rattle.numbers.specs.Ints.{in64, bits, signed_of}
 use Rattle.layout.specs.Bytes.{little_endian, together}
 use Rattle.layout.specs.Pieces.{Piece, piece}
@@ -183,14 +183,14 @@ pub demanded : (t : List ℕ) (base : ℕ) (k : Lent) → Demanded t base k (cal
 demanded t base k = by (layout_of t base k) refl
   where
     exactly : (n : ℕ) (σ : State) (bytes : List ℕ) → BeforeRounds t base k σ bytes → Conditions base σ
-        → (n ≡ 17 → (r : Refusal) × (layout_of t base k ≡ refused r) × (r.number ≡ 17))
-        → ((r : Refusal) × (layout_of t base k ≡ refused r) × (r.number ≡ 17) → n ≡ 17) → (n ≡ 17) ↔ Chained σ
+        → (n ≡ 17 → (r : Refusal) × (layout_of t base k ≡ Err r) × (r.number ≡ 17))
+        → ((r : Refusal) × (layout_of t base k ≡ Err r) × (r.number ≡ 17) → n ≡ 17) → (n ≡ 17) ↔ Chained σ
     exactly n σ bytes b c to from =
         let x = unresolved_exactly t base k σ bytes b c in
         ((λ e. x.0 (to e)), (λ u. from (x.1 u)))
 
-    by : (o : Result Refusal Layout) → layout_of t base k ≡ o → Demanded t base k (answer_of k o)
-    by (value l) e =
+    by : (o : Result Layout Refusal) → layout_of t base k ≡ o → Demanded t base k (answer_of k o)
+    by (Ok l) e =
         let fits : LayoutFits t k l = rw e at (layout_fits t base k) in
         record {
           accepted = λ _.
@@ -199,7 +199,7 @@ demanded t base k = by (layout_of t base k) refl
           unresolved = λ n. absurd (omega (arith, n));
           exactly = λ σ bytes b c. exactly 0 σ bytes b c (λ n. absurd (omega (arith, n))) (λ x. absurd (value-refused (sym e ∙ x.1)));
         }
-    by (refused r) e =
+    by (Err r) e =
         record {
           accepted = λ n. absurd (omega (arith, n, refusal_numbered t base k r e));
           unresolved = λ n. unresolved_line t base k r e n;

@@ -6,7 +6,7 @@ use native.Mathlib.Omega.{arith}
 use mathlib.Core.Path.{◌≡◌, refl, sym, ap, ◌∙◌}
 use mathlib.Core.Bool.{Bool, true, false}
 use mathlib.Core.List.{List, [], ◌∷◌, ◌++◌}
-use mathlib.Core.Option.{Option, none, some}
+use Rattle.std.proofs.Common.{Option, None, Some}
 use lib.Dec.{eqb, ltb}
 use lib.ListN.{length, drop, get_or, set, replicate, length-set, length-append, length-replicate, drop_of_length-le, get_or-replicate, get_or-append}
 use lib.Seq.{drop-cons, get_or-set_same, get_or-set_other, get_or-append_seam}
@@ -70,7 +70,7 @@ module _ (s : List ℕ) (h i : ℕ) where
 
 -- the first of the names that is n
 pub lookup_at : (ns : List (List ℕ)) (n : List ℕ) (j k : ℕ) → k < length ns → same (name_at ns k) n ≡ true
-    → ((i : ℕ) → i < k → same (name_at ns i) n ≡ false) → lookup_in n j ns ≡ some (j + k)
+    → ((i : ℕ) → i < k → same (name_at ns i) n ≡ false) → lookup_in n j ns ≡ Some (j + k)
 unfolding lookup_in
 lookup_at [] n j k h e before = absurd (omega arith)
 lookup_at (y ∷ ys) n j zero h e before = rw (lookup_in, e, add-zero j) refl
@@ -78,19 +78,19 @@ lookup_at (y ∷ ys) n j (suc k) h e before =
     let sum : suc j + k ≡ j + suc k = omega arith in
     rw (lookup_in, before 0 (omega arith), ← sum) (lookup_at ys n (suc j) k (omega arith) e (λ i l. before (suc i) (omega arith)))
 
-pub lookup_none : (ns : List (List ℕ)) (n : List ℕ) (j : ℕ) → ((i : ℕ) → i < length ns → same (name_at ns i) n ≡ false) → lookup_in n j ns ≡ none
+pub lookup_none : (ns : List (List ℕ)) (n : List ℕ) (j : ℕ) → ((i : ℕ) → i < length ns → same (name_at ns i) n ≡ false) → lookup_in n j ns ≡ None
 unfolding lookup_in
 lookup_none [] n j all = refl
 lookup_none (y ∷ ys) n j all = rw (lookup_in, all 0 (omega arith)) (lookup_none ys n (suc j) (λ i l. all (suc i) (omega arith)))
 
 -- what was not found is none of the names
-pub not_among : (ns : List (List ℕ)) (n : List ℕ) (j : ℕ) → lookup_in n j ns ≡ none → (i : ℕ) → i < length ns → same (name_at ns i) n ≡ false
+pub not_among : (ns : List (List ℕ)) (n : List ℕ) (j : ℕ) → lookup_in n j ns ≡ None → (i : ℕ) → i < length ns → same (name_at ns i) n ≡ false
 unfolding lookup_in
 not_among [] n j e i h = absurd (omega arith)
 not_among (y ∷ ys) n j e i h = by (same y n) refl e (not_among ys n (suc j)) i h
   where
-    by : (c : Bool) → same y n ≡ c → ◌≡◌ {A = Option ℕ} (elim c [ true ↦ some j | false ↦ lookup_in n (suc j) ys ]) none
-        → (lookup_in n (suc j) ys ≡ none → (i : ℕ) → i < length ys → same (name_at ys i) n ≡ false)
+    by : (c : Bool) → same y n ≡ c → ◌≡◌ {A = Option ℕ} (elim c [ true ↦ Some j | false ↦ lookup_in n (suc j) ys ]) None
+        → (lookup_in n (suc j) ys ≡ None → (i : ℕ) → i < length ys → same (name_at ys i) n ≡ false)
         → (i : ℕ) → i < suc (length ys) → same (name_at (y ∷ ys) i) n ≡ false
     by true q e later i h = absurd (none-some (sym e))
     by false q e later zero h = q
@@ -169,13 +169,13 @@ module _ (ns : List (List ℕ)) (ix x : List ℕ) (q : Indexed ns ix) where
         (λ i a b. by_equal i (c - 1) (λ z. rw z e) (λ n. w.rest i (omega (arith, n)) b))
 
     -- where no two names are the same, the one that is x is the first
-    pub walk_hit : Distinct ns → same (name_at ns (c - 1)) x ≡ true → some (c - 1) ≡ lookup_in x 0 ns
+    pub walk_hit : Distinct ns → same (name_at ns (c - 1)) x ≡ true → Some (c - 1) ≡ lookup_in x 0 ns
     walk_hit d e =
-        ap (λ (k : ℕ). some k) (sym (zero-add (c - 1)))
+        ap (λ (k : ℕ). Some k) (sym (zero-add (c - 1)))
         ∙ sym (lookup_at ns x 0 (c - 1) (omega (arith, w.le)) e
         (λ i l. rw (← same_equal (name_at ns (c - 1)) x e) (d i (c - 1) l (omega (arith, w.le)))))
 
-  pub walk_miss : (c : ℕ) → c ≤ 0 → BucketWalk ns x c → none ≡ lookup_in x 0 ns
+  pub walk_miss : (c : ℕ) → c ≤ 0 → BucketWalk ns x c → None ≡ lookup_in x 0 ns
   walk_miss c z w = sym (lookup_none ns x 0 (λ i l. w.rest i (omega arith) l))
 
 -- ---- the index is kept

@@ -1,23 +1,23 @@
 -- Items: the code's record of an item stands for what the definition gives; and a text line by its kind.
+use Rattle.layout.specs.Code.Numbers.{numbered}
+use Rattle.layout.specs.declared.refusal.Refusal as code
+use Rattle.std.proofs.Common.{Result}
 use Prim.Native.Nat.{ℕ, ◌+◌, ◌*◌, ◌≤◌, ◌<◌}
 use native.Mathlib.Omega.{arith}
 use mathlib.Core.Path.{◌≡◌, refl, sym, ap, ◌∙◌}
 use mathlib.Core.List.{List, [], ◌∷◌}
-use mathlib.Core.Option.{Option}
+use Rattle.std.proofs.Common.{Option}
 use lib.ListN.{length, length-append}
 use borrow.Author.Tests.{le-ltb, lt-ltb, le-leb, lt-leb}
 use Rattle.numbers.specs.declared.text.Span.{Span}
-use Rattle.numbers.specs.Results.{value, refused}
+use Rattle.std.proofs.Common.{Ok, Err}
 use Rattle.numbers.specs.Code.Spans.{spanned}
 use Rattle.layout.specs.declared.limits.Room.{Room}
 use Rattle.layout.specs.declared.state.ItemCount.{ItemCount}
-use Rattle.layout.specs.declared.state.ItemStep.{ItemStep}
 use Rattle.layout.specs.declared.records.ItemRecord.{ItemRecord}
 use Rattle.layout.specs.declared.pseudo.Pseudo.{Pseudo}
 use Rattle.layout.specs.declared.pseudo.LineKind.{LineKind}
 use Rattle.layout.specs.declared.pseudo.LineKind.TheVariants as kind
-use Rattle.layout.specs.declared.pseudo.TextLine.{TextLine}
-use Rattle.layout.specs.declared.pseudo.TextLine.TheVariants as line
 use Rattle.layout.specs.Bytes.{little_endian, put}
 use Rattle.layout.specs.Limits.{item_size}
 use Rattle.layout.specs.Records.{field_bytes, item_fields}
@@ -27,7 +27,7 @@ use Rattle.layout.specs.Stage.{add_item, text_line}
 use Rattle.layout.specs.Code.Kinds.{text_line_code, kind_item, kind_source}
 use Rattle.layout.specs.Code.Spans.{SpanWithin, piece_at}
 use Rattle.layout.specs.Code.Steps.{Steps}
-use Rattle.layout.specs.Code.Stands.{ItemsStand, item_so_far, items_of}
+use Rattle.layout.specs.Code.Stands.{ItemsStand, item_so_far}
 use Rattle.layout.proofs.ByteLaws.{length-put}
 use Rattle.layout.proofs.TableLaws.{table_more}
 use Rattle.layout.proofs.SpanLaws.{within_size, within_inside}
@@ -43,12 +43,12 @@ abbrev pub item_code : ℕ → ℕ → ℕ → Span → ItemRecord
 item_code words line number q = record { address = 4 * words; line = line; kind = number; first = 0; start = q.start; len = q.len }
 
 module _ (t : List ℕ) (k : Room) (c : ItemCount) (b b' : List ℕ) (line : ℕ) (i : Option Pseudo) (q : Span) where
-  pub item_many : k.items ≤ c.items → Steps (ItemsStand t k) c b (refused 48) b' (add_item k line i (piece_at t q))
+  pub item_many : k.items ≤ c.items → Steps (ItemsStand t k) c b (Err 48) b' (add_item k line i (piece_at t q))
   unfolding add_item
   item_many h σ s = rw (add_item, le-ltb (length σ.list) k.items (omega (arith, s.counted))) refl
 
   module _ (m : ℕ) (is : m ≡ reserved_words i (spanned t q)) (h : c.items < k.items) where
-    pub item-full : k.words < c.words + m → Steps (ItemsStand t k) c b (refused 44) b' (add_item k line i (piece_at t q))
+    pub item-full : k.words < c.words + m → Steps (ItemsStand t k) c b (Err 44) b' (add_item k line i (piece_at t q))
     unfolding add_item
     item-full g σ s =
         let few = lt-ltb (length σ.list) k.items (omega (arith, s.counted)) in
@@ -57,7 +57,7 @@ module _ (t : List ℕ) (k : Room) (c : ItemCount) (b b' : List ℕ) (line : ℕ
     pub item_goes : c.words + m ≤ k.words → line < length t → SpanWithin t q
         → (number : ℕ) → number ≡ item_kind i → (r : Span) → r ≡ q
         → b' ≡ put (c.items * item_size) (field_bytes (item_fields (item_code c.words line number r))) b
-        → Steps (ItemsStand t k) c b (value (record { items = c.items + 1; words = c.words + m })) b' (add_item k line i (piece_at t q))
+        → Steps (ItemsStand t k) c b (Ok (record { items = c.items + 1; words = c.words + m })) b' (add_item k line i (piece_at t q))
     unfolding add_item
     item_goes g below w number e r f p σ s =
         let x : ItemLine = record { offset = 4 * σ.words; line = line; item = i; source = piece_at t q } in
@@ -83,32 +83,32 @@ module _ (t : List ℕ) (k : Room) (c : ItemCount) (b b' : List ℕ) (line : ℕ
 pub kind_few : (t : List ℕ) (x : LineKind) (m : ℕ) → m ≡ reserved_words (kind_item x) (spanned t (kind_source x)) → m ≤ 11
 kind_few t x m e = rw e (words_few (kind_item x) (spanned t (kind_source x))).1
 
-module _ (t : List ℕ) (q : Span) (found : TextLine) (e : found ≡ text_line_code (item_of (spanned t q)) q) where
-  pub kind_within : (x : LineKind) → found ≡ line.Item x → SpanWithin t q → SpanWithin t (kind_source x)
+module _ (t : List ℕ) (q : Span) (found : Result LineKind ℕ) (e : found ≡ text_line_code (item_of (spanned t q)) q) where
+  pub kind_within : (x : LineKind) → found ≡ Ok x → SpanWithin t q → SpanWithin t (kind_source x)
   kind_within x f h = by (item_of (spanned t q)) (sym e ∙ f)
     where
-      by : (j : Item) → text_line_code j q ≡ line.Item x → SpanWithin t (kind_source x)
+      by : (j : Item) → text_line_code j q ≡ Ok x → SpanWithin t (kind_source x)
       by ordinary g = let z : kind.Instr q ≡ x = cc in rw (← z) h
       by (pseudo p) g = let z : kind.Pseudo p q ≡ x = cc in rw (← z) h
       by other g = let z : ◌≡◌ {A = ℕ} 0 1 = cc in absurd (omega arith)
 
   module _ (k : Room) (c : ItemCount) (b b' : List ℕ) (n : ℕ) where
-    pub text-item : (r : ItemStep) (x : LineKind) → found ≡ line.Item x
-        → Steps (ItemsStand t k) c b (items_of r) b' (add_item k n (kind_item x) (piece_at t (kind_source x)))
-        → Steps (ItemsStand t k) c b (items_of r) b' (text_line k n (piece_at t q) (item_of (spanned t q)))
+    pub text-item : (r : Result ItemCount code.Refusal) (x : LineKind) → found ≡ Ok x
+        → Steps (ItemsStand t k) c b (numbered r) b' (add_item k n (kind_item x) (piece_at t (kind_source x)))
+        → Steps (ItemsStand t k) c b (numbered r) b' (text_line k n (piece_at t q) (item_of (spanned t q)))
     unfolding text_line
     text-item r x f h = by (item_of (spanned t q)) (sym e ∙ f)
       where
-        by : (j : Item) → text_line_code j q ≡ line.Item x → Steps (ItemsStand t k) c b (items_of r) b' (text_line k n (piece_at t q) j)
+        by : (j : Item) → text_line_code j q ≡ Ok x → Steps (ItemsStand t k) c b (numbered r) b' (text_line k n (piece_at t q) j)
         by ordinary g σ s = let z : x ≡ kind.Instr q = cc in rw z at (h σ s)
         by (pseudo p) g σ s = let z : x ≡ kind.Pseudo p q = cc in rw z at (h σ s)
         by other g σ s = let z : ◌≡◌ {A = ℕ} 0 1 = cc in absurd (omega arith)
 
-    pub text-other : found ≡ line.Unsupported → Steps (ItemsStand t k) c b (refused 21) b' (text_line k n (piece_at t q) (item_of (spanned t q)))
+    pub text-other : (m : ℕ) → found ≡ Err m → Steps (ItemsStand t k) c b (Err m) b' (text_line k n (piece_at t q) (item_of (spanned t q)))
     unfolding text_line
-    text-other f = by (item_of (spanned t q)) (sym e ∙ f)
+    text-other m f = by (item_of (spanned t q)) (sym e ∙ f)
       where
-        by : (j : Item) → text_line_code j q ≡ line.Unsupported → Steps (ItemsStand t k) c b (refused 21) b' (text_line k n (piece_at t q) j)
+        by : (j : Item) → text_line_code j q ≡ Err m → Steps (ItemsStand t k) c b (Err m) b' (text_line k n (piece_at t q) j)
         by ordinary g σ s = let z : ◌≡◌ {A = ℕ} 0 1 = cc in absurd (omega arith)
         by (pseudo p) g σ s = let z : ◌≡◌ {A = ℕ} 0 1 = cc in absurd (omega arith)
-        by other g σ s = refl
+        by other g σ s = let z : m ≡ 21 = cc in z

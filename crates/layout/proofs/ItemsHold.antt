@@ -5,14 +5,15 @@ use mathlib.Core.Path.{◌≡◌, refl, sym, ◌∙◌, ap, ap₂, subst}
 use mathlib.Core.Logic.{◌⊎◌, inl, inr}
 use mathlib.Core.List.{List, [], ◌∷◌, ◌++◌, append-nil, append_assoc}
 use mathlib.Core.Bool.{Bool, true, false, cond, false≢true}
-use mathlib.Core.Option.{Option, none, some}
+use Rattle.std.proofs.Common.{Option, None, Some}
 use native.Mathlib.Omega.{arith}
 use lib.Dec.{leb}
 use lib.IntN.{ℤ, pos, negsuc, ◌+ℤ◌}
 use lib.ListN.{length, take, drop, length-append}
 use lib.Seq.{take_at, drop_at}
 use borrow.Author.Tests.{leb-true, le-ltb}
-use Rattle.numbers.specs.Results.{Result, value, refused, and_then, mapped, or_refuse}
+use Rattle.std.proofs.Common.{Result, Ok, Err}
+use Rattle.numbers.specs.Results.{and_then, mapped, or_refuse}
 use Rattle.numbers.specs.Text.{text, starts_with}
 use Rattle.numbers.specs.Ints.{is_signed12, is_signed32, bits}
 use Rattle.numbers.specs.Numbers.{imm_of, imm64_of}
@@ -40,7 +41,7 @@ use Rattle.layout.proofs.Emissions.{emission-sized}
 use Rattle.layout.proofs.Kept.{consecutive_next}
 
 abbrev Words : Type 0
-Words = Result ℕ (List ℕ)
+Words = Result (List ℕ) ℕ
 
 -- ---- numbers modulo 2^32
 
@@ -62,12 +63,12 @@ mod_up (negsuc n) e =
 -- ---- words of instructions
 
 -- words that the encoder gives load what was proved of them
-loads_as : (vs ws : List ℕ) (r v v' : ℕ) → ◌≡◌ {A = Words} (value ws) (value vs) → v ≡ v' → LoadsIn ws r v → LoadsIn vs r v'
+loads_as : (vs ws : List ℕ) (r v v' : ℕ) → ◌≡◌ {A = Words} (Ok ws) (Ok vs) → v ≡ v' → LoadsIn ws r v → LoadsIn vs r v'
 loads_as vs ws r v v' p q h = subst (λ (us : List ℕ). LoadsIn us r v') (value_same p) (subst (λ (u : ℕ). LoadsIn ws r u) q h)
 
 -- a number's load loads it: a single addi one that it holds, the pair any, of upper part 0 too
 number_loads : (one : Bool) (rd : ℕ) (z : ℤ) (vs : List ℕ) → is_signed32 z ≡ true → (one ≡ true → is_signed12 z ≡ true) → rd < 32
-    → encoded (instructions Li (li_load one rd z)) ≡ value vs → LoadsIn vs rd (modulo32 z)
+    → encoded (instructions Li (li_load one rd z)) ≡ Ok vs → LoadsIn vs rd (modulo32 z)
 number_loads true rd z vs s h below e =
     let r = single_loads rd z below (h refl) in
     loads_as vs r.0 rd (bits 32 z) (modulo32 z) (sym r.1 ∙ e) (signed-bits z s) r.2
@@ -82,9 +83,9 @@ module _ (const : List ℕ → Option ℤ) (place : List ℕ → Option ℕ) whe
     second : List ℕ
     operands : ops ≡ first ∷ second ∷ []
     register : ℕ
-    is_register : register_of first ≡ some register
+    is_register : register_of first ≡ Some register
     value : ℤ
-    said : says second ≡ some value
+    said : says second ≡ Some value
     loaded : LoadsIn vs register (modulo32 value)
 
   -- ---- li
@@ -95,18 +96,18 @@ module _ (const : List ℕ → Option ℤ) (place : List ℕ → Option ℕ) whe
   -- an li by what its first operand reads as
   abbrev li_read : List ℕ → Option ℕ → Words
   li_read b n =
-      and_then (mapped (instructions Li) (and_then (or_refuse 18 (register_before (some b) n) number_last) (looked_up const place))) encoded
+      and_then (mapped (instructions Li) (and_then (or_refuse 18 (register_before (Some b) n) number_last) (looked_up const place))) encoded
 
-  li_two : (a b vs : List ℕ) → li_read b (register_of a) ≡ value vs → LoadsAs (a ∷ b ∷ []) vs says_li
+  li_two : (a b vs : List ℕ) → li_read b (register_of a) ≡ Ok vs → LoadsAs (a ∷ b ∷ []) vs says_li
   li_two a b vs e = by (register_of a) refl e
     where
-      made : (n : ℕ) → register_of a ≡ some n → (z : ℤ) → says_li b ≡ some z → LoadsIn vs n (modulo32 z) → LoadsAs (a ∷ b ∷ []) vs says_li
+      made : (n : ℕ) → register_of a ≡ Some n → (z : ℤ) → says_li b ≡ Some z → LoadsIn vs n (modulo32 z) → LoadsAs (a ∷ b ∷ []) vs says_li
       made n r z q l = record { first = a; second = b; operands = refl; register = n; is_register = r; value = z; said = q; loaded = l }
 
       says : (o : Option ℤ) → imm_of b ≡ o → says_li b ≡ li_says o (imm64_of b) (const b)
       says o q = ap (λ (o : Option ℤ). li_says o (imm64_of b) (const b)) q
 
-      number : (n : ℕ) → register_of a ≡ some n → (z : ℤ) → imm_of b ≡ some z → encoded (instructions Li (li_load (is_signed12 z) n z)) ≡ value vs
+      number : (n : ℕ) → register_of a ≡ Some n → (z : ℤ) → imm_of b ≡ Some z → encoded (instructions Li (li_load (is_signed12 z) n z)) ≡ Ok vs
           → LoadsAs (a ∷ b ∷ []) vs says_li
       number n r z q e = which (imm_in32 b z q).1
         where
@@ -116,34 +117,34 @@ module _ (const : List ℕ → Option ℤ) (place : List ℕ → Option ℕ) whe
           loaded : LoadsIn vs n (modulo32 z)
           loaded = number_loads (is_signed12 z) n z vs s (λ w. w) (register_below a n r) e
 
-          which : (imm64_of b ≡ some z) ⊎ (imm64_of b ≡ some (z +ℤ pos (2 ^ 32))) → LoadsAs (a ∷ b ∷ []) vs says_li
-          which (inl w) = made n r z (says (some z) q ∙ w) loaded
+          which : (imm64_of b ≡ Some z) ⊎ (imm64_of b ≡ Some (z +ℤ pos (2 ^ 32))) → LoadsAs (a ∷ b ∷ []) vs says_li
+          which (inl w) = made n r z (says (Some z) q ∙ w) loaded
           which (inr w) =
-              made n r (z +ℤ pos (2 ^ 32)) (says (some z) q ∙ w) (subst (LoadsIn vs n) (sym (mod_up z s)) loaded)
+              made n r (z +ℤ pos (2 ^ 32)) (says (Some z) q ∙ w) (subst (LoadsIn vs n) (sym (mod_up z s)) loaded)
 
-      name : (n : ℕ) → register_of a ≡ some n → imm_of b ≡ none → (c : Bool) (o : Option ℤ) → const b ≡ o
-          → and_then (mapped (instructions Li) (mapped (li_load false n) (cond c (refused 19) (li_held o)))) encoded ≡ value vs
+      name : (n : ℕ) → register_of a ≡ Some n → imm_of b ≡ None → (c : Bool) (o : Option ℤ) → const b ≡ o
+          → and_then (mapped (instructions Li) (mapped (li_load false n) (cond c (Err 19) (li_held o)))) encoded ≡ Ok vs
           → LoadsAs (a ∷ b ∷ []) vs says_li
       name n r q true o w e = absurd (refused-value e)
-      name n r q false none w e = absurd (refused-value e)
-      name n r q false (some z) w e = small (is_signed32 z) refl e
+      name n r q false None w e = absurd (refused-value e)
+      name n r q false (Some z) w e = small (is_signed32 z) refl e
         where
           small : (c : Bool) → is_signed32 z ≡ c
-              → and_then (mapped (instructions Li) (mapped (li_load false n) (cond c (value z) (refused 19)))) encoded ≡ value vs
+              → and_then (mapped (instructions Li) (mapped (li_load false n) (cond c (Ok z) (Err 19)))) encoded ≡ Ok vs
               → LoadsAs (a ∷ b ∷ []) vs says_li
-          small true s e = made n r z (says none q ∙ w) (number_loads false n z vs s (λ w. absurd (false≢true w)) (register_below a n r) e)
+          small true s e = made n r z (says None q ∙ w) (number_loads false n z vs s (λ w. absurd (false≢true w)) (register_below a n r) e)
           small false s e = absurd (refused-value e)
 
-      then : (n : ℕ) → register_of a ≡ some n → (o : Option ℤ) → imm_of b ≡ o
-          → and_then (mapped (instructions Li) (looked_up const place (number_or n b o))) encoded ≡ value vs → LoadsAs (a ∷ b ∷ []) vs says_li
-      then n r (some z) q e = number n r z q e
-      then n r none q e = name n r q (starts_with (text "'") b) (const b) refl e
+      then : (n : ℕ) → register_of a ≡ Some n → (o : Option ℤ) → imm_of b ≡ o
+          → and_then (mapped (instructions Li) (looked_up const place (number_or n b o))) encoded ≡ Ok vs → LoadsAs (a ∷ b ∷ []) vs says_li
+      then n r (Some z) q e = number n r z q e
+      then n r None q e = name n r q (starts_with (text "'") b) (const b) refl e
 
-      by : (o : Option ℕ) → register_of a ≡ o → li_read b o ≡ value vs → LoadsAs (a ∷ b ∷ []) vs says_li
-      by none r e = absurd (refused-value e)
-      by (some n) r e = then n r (imm_of b) refl e
+      by : (o : Option ℕ) → register_of a ≡ o → li_read b o ≡ Ok vs → LoadsAs (a ∷ b ∷ []) vs says_li
+      by None r e = absurd (refused-value e)
+      by (Some n) r e = then n r (imm_of b) refl e
 
-  li_loads : (ops : List (List ℕ)) (vs : List ℕ) → and_then (expansion const place Li ops) encoded ≡ value vs → LoadsAs ops vs says_li
+  li_loads : (ops : List (List ℕ)) (vs : List ℕ) → and_then (expansion const place Li ops) encoded ≡ Ok vs → LoadsAs ops vs says_li
   unfolding expansion
   li_loads [] vs e = absurd (refused-value e)
   li_loads (a ∷ []) vs e = absurd (refused-value e)
@@ -158,15 +159,15 @@ module _ (const : List ℕ → Option ℤ) (place : List ℕ → Option ℕ) whe
   -- an la by what its first operand reads as
   abbrev la_read : List ℕ → Option ℕ → Words
   la_read b n =
-      and_then (mapped (instructions La) (and_then (or_refuse 18 (register_before (some b) n) label_last) (looked_up const place))) encoded
+      and_then (mapped (instructions La) (and_then (or_refuse 18 (register_before (Some b) n) label_last) (looked_up const place))) encoded
 
-  la_two : (a b vs : List ℕ) → la_read b (register_of a) ≡ value vs → LoadsAs (a ∷ b ∷ []) vs says_la
+  la_two : (a b vs : List ℕ) → la_read b (register_of a) ≡ Ok vs → LoadsAs (a ∷ b ∷ []) vs says_la
   la_two a b vs e = by (register_of a) refl e
     where
-      then : (n : ℕ) → register_of a ≡ some n → (p : Option ℕ) → place b ≡ p
-          → and_then (mapped (instructions La) (or_refuse 20 p (λ v. value (word n v)))) encoded ≡ value vs → LoadsAs (a ∷ b ∷ []) vs says_la
-      then n r none q e = absurd (refused-value e)
-      then n r (some v) q e =
+      then : (n : ℕ) → register_of a ≡ Some n → (p : Option ℕ) → place b ≡ p
+          → and_then (mapped (instructions La) (or_refuse 20 p (λ v. Ok (word n v)))) encoded ≡ Ok vs → LoadsAs (a ∷ b ∷ []) vs says_la
+      then n r None q e = absurd (refused-value e)
+      then n r (Some v) q e =
           record {
             first = a;
             second = b;
@@ -180,11 +181,11 @@ module _ (const : List ℕ → Option ℤ) (place : List ℕ → Option ℕ) whe
                 loads_as vs g.0 n (v % 2 ^ 32) (v % 2 ^ 32) (sym g.1 ∙ e) refl g.2;
           }
 
-      by : (o : Option ℕ) → register_of a ≡ o → la_read b o ≡ value vs → LoadsAs (a ∷ b ∷ []) vs says_la
-      by none r e = absurd (refused-value e)
-      by (some n) r e = then n r (place b) refl e
+      by : (o : Option ℕ) → register_of a ≡ o → la_read b o ≡ Ok vs → LoadsAs (a ∷ b ∷ []) vs says_la
+      by None r e = absurd (refused-value e)
+      by (Some n) r e = then n r (place b) refl e
 
-  la_loads : (ops : List (List ℕ)) (vs : List ℕ) → and_then (expansion const place La ops) encoded ≡ value vs → LoadsAs ops vs says_la
+  la_loads : (ops : List (List ℕ)) (vs : List ℕ) → and_then (expansion const place La ops) encoded ≡ Ok vs → LoadsAs ops vs says_la
   unfolding expansion
   la_loads [] vs e = absurd (refused-value e)
   la_loads (a ∷ []) vs e = absurd (refused-value e)
@@ -198,7 +199,7 @@ module _ (const : List ℕ → Option ℤ) (place : List ℕ → Option ℕ) whe
     pub data Emission : List ItemLine → ℕ → List ℕ → List ItemAt → Type 0 where
       no_item : {n : ℕ} → Emission [] n [] []
       an_item : {x : ItemLine} {xs : List ItemLine} {n : ℕ} {ws : List ℕ} {is : List ItemAt} (vs : List ℕ)
-          → emission const place x.item x.source.bytes ≡ value vs → Emission xs (n + length vs) ws is
+          → emission const place x.item x.source.bytes ≡ Ok vs → Emission xs (n + length vs) ws is
           → Emission (x ∷ xs) n (vs ++ ws) (item_at base x n ∷ is)
 
     -- what is emitted after ws and is
@@ -218,8 +219,8 @@ module _ (const : List ℕ → Option ℤ) (place : List ℕ → Option ℕ) whe
             → ((ws : List ℕ) (is : List ItemAt) → Gives (EmittedAs xs ws is) (emit base const place xs ws is))
             → Gives (EmittedAs (x ∷ xs) ws is)
             (and_then (at_line x.line v) (λ vs. emit base const place xs (ws ++ vs) (is ++ item_at base x (length ws) ∷ [])))
-        by (refused n) q more = tt
-        by (value vs) q more =
+        by (Err n) q more = tt
+        by (Ok vs) q more =
             let is' = is ++ item_at base x (length ws) ∷ [] in
             comes_so (EmittedAs xs (ws ++ vs) is') (EmittedAs (x ∷ xs) ws is) (λ _. Unit) (λ _. Unit)
             (λ y r. record {
@@ -232,7 +233,7 @@ module _ (const : List ℕ → Option ℤ) (place : List ℕ → Option ℕ) whe
             (λ r u. u) (emit base const place xs (ws ++ vs) is') (more (ws ++ vs) is')
 
     -- those behind the first
-    pub behind : (x : ItemLine) (xs : List ItemLine) (n m : ℕ) (vs : List ℕ) → emission const place x.item x.source.bytes ≡ value vs
+    pub behind : (x : ItemLine) (xs : List ItemLine) (n m : ℕ) (vs : List ℕ) → emission const place x.item x.source.bytes ≡ Ok vs
         → Consecutive n (x ∷ xs) m → Consecutive (n + length vs) xs m
     behind x xs n m vs q = consecutive_next n (n + length vs) x xs m (ap (λ (k : ℕ). n + k) (emission-sized const place x.item x.source.bytes vs q))
 
@@ -267,7 +268,7 @@ module _ (const : List ℕ → Option ℤ) (place : List ℕ → Option ℕ) whe
           }
 
       item-holds : (x : ItemLine) (above : List ItemAt) (n : ℕ) (vs : List ℕ) (below : List ItemAt)
-          → emission const place x.item x.source.bytes ≡ value vs → item_words l (item_at base x n) below ≡ vs → x.offset ≡ 4 * n
+          → emission const place x.item x.source.bytes ≡ Ok vs → item_words l (item_at base x n) below ≡ vs → x.offset ≡ 4 * n
           → ItemHolds base l x above (item_at base x n) below
       item-holds x above n vs below e w o =
           let s = x.source.bytes in

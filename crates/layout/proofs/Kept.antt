@@ -3,12 +3,13 @@ use Prim.Native.Nat.{ℕ, suc, ◌+◌, ◌-◌, ◌*◌, ◌≤◌, ◌<◌}
 use mathlib.Core.Path.{◌≡◌, refl, sym, ap, subst}
 use mathlib.Core.List.{List, [], ◌∷◌, ◌++◌}
 use mathlib.Core.Bool.{Bool, true, false, cond, ◌||◌, true≢false, false≢true}
-use mathlib.Core.Option.{Option, none, some}
+use Rattle.std.proofs.Common.{Option, None, Some}
 use native.Mathlib.Omega.{arith}
 use lib.Dec.{eqb, ltb, leb}
 use lib.ListN.{length, length-append, length-replicate}
 use borrow.Author.Tests.{ltb-true, leb-true}
-use Rattle.numbers.specs.Results.{Result, value, refused, and_then, mapped}
+use Rattle.std.proofs.Common.{Result, Ok, Err}
+use Rattle.numbers.specs.Results.{and_then, mapped}
 use Rattle.numbers.specs.Text.{same}
 use Rattle.numbers.specs.Numbers.{imm_of}
 use Rattle.numbers.specs.Strings.{string_bytes}
@@ -108,7 +109,7 @@ unfolding grow_data
 grow_data_fits k w bs = by (leb (length bs + write_size (length bs) w) k.bytes) refl
   where
     by : (c : Bool) → leb (length bs + write_size (length bs) w) k.bytes ≡ c
-        → Gives {R = ℕ} (Grown k w bs) (elim c [ true ↦ value (bs ++ write_bytes (length bs) w) | false ↦ refused 42 ])
+        → Gives {R = ℕ} (Grown k w bs) (elim c [ true ↦ Ok (bs ++ write_bytes (length bs) w) | false ↦ Err 42 ])
     by true q =
         let e : length (bs ++ write_bytes (length bs) w) ≡ length bs + write_size (length bs) w =
         omega (arith, length-append bs (write_bytes (length bs) w), write-length (length bs) w) in
@@ -127,7 +128,7 @@ add_label_word_fits t line p n (address_of name) ws h i g = by (ltb (length ws) 
     x = record { at = p; name = name; line = line }
 
     by : (c : Bool) → ltb (length ws) label_word_limit ≡ c
-        → Gives {R = ℕ} (LabelWordsFit t n) (elim c [ true ↦ value (ws ++ x ∷ []) | false ↦ refused 47 ])
+        → Gives {R = ℕ} (LabelWordsFit t n) (elim c [ true ↦ Ok (ws ++ x ∷ []) | false ↦ Err 47 ])
     by true q = (
       rw (length-append ws (x ∷ [])) (omega (arith, ltb-true)),
       each_append (LabelWordFits t n) ws (x ∷ []) g.1 (record { place = i; line = h }, tt),
@@ -145,14 +146,14 @@ pub grow_bss_fits : (n : ℕ) → Gives (λ m. m ≤ bss_limit) (grow_bss n)
 unfolding grow_bss
 grow_bss_fits n = by (leb n bss_limit) refl
   where
-    by : (c : Bool) → leb n bss_limit ≡ c → Gives {R = ℕ} (λ m. m ≤ bss_limit) (elim c [ true ↦ value n | false ↦ refused 43 ])
+    by : (c : Bool) → leb n bss_limit ≡ c → Gives {R = ℕ} (λ m. m ≤ bss_limit) (elim c [ true ↦ Ok n | false ↦ Err 43 ])
     by true q = leb-true _ _ q
     by false q = tt
 
-pub bss_line_fits : (r : Result ℕ Reservation) (p : ℕ) → Gives (λ m. m ≤ bss_limit) (bss_line r p)
+pub bss_line_fits : (r : Result Reservation ℕ) (p : ℕ) → Gives (λ m. m ≤ bss_limit) (bss_line r p)
 unfolding bss_line
-bss_line_fits (value x) p = grow_bss_fits (place_after p x)
-bss_line_fits (refused n) p = tt
+bss_line_fits (Ok x) p = grow_bss_fits (place_after p x)
+bss_line_fits (Err n) p = tt
 
 module _ (t : List ℕ) (k : Room) where
   -- ---- each part's step
@@ -165,7 +166,7 @@ module _ (t : List ℕ) (k : Room) where
       more few = record { few = few; each = recorded_each (LabelFits t) x ls g f.each }
 
       by : (a b : Bool) → is_label x.name.bytes ls ≡ a → ltb (length ls) k.labels ≡ b
-          → Gives {R = ℕ} (LabelsFit t k) (elim (a || b) [ true ↦ value (recorded x ls) | false ↦ refused 45 ])
+          → Gives {R = ℕ} (LabelsFit t k) (elim (a || b) [ true ↦ Ok (recorded x ls) | false ↦ Err 45 ])
       by true b p q = more (rw (recorded_known x ls p) f.few)
       by false true p q = more (rw (recorded_new x ls p) (ltb-true _ _ q))
       by false false p q = tt
@@ -175,7 +176,7 @@ module _ (t : List ℕ) (k : Room) where
   add_equate_fits x es g f = by (ltb (length es) k.equates) refl
     where
       by : (c : Bool) → ltb (length es) k.equates ≡ c
-          → Gives {R = ℕ} (EquatesFit t k) (elim c [ true ↦ value (es ++ x ∷ []) | false ↦ refused 46 ])
+          → Gives {R = ℕ} (EquatesFit t k) (elim c [ true ↦ Ok (es ++ x ∷ []) | false ↦ Err 46 ])
       by true q =
           record { few = rw (length-append es (x ∷ [])) (omega (arith, ltb-true)); each = each_append (EquateFits t) es (x ∷ []) f.each (g, tt) }
       by false q = tt
@@ -186,8 +187,8 @@ module _ (t : List ℕ) (k : Room) where
     pub label_step_fits : (place : Place) (l : Option Piece) (ls : List Label) → PlaceFits place → LabelInside t l → LabelsFit t k ls
         → Gives (LabelsFit t k) (label_step k place line l ls)
     unfolding label_step
-    label_step_fits place none ls i g f = f
-    label_step_fits place (some name) ls i g f = add_label_fits _ ls (record { name = g; place = i; line = h }) f
+    label_step_fits place None ls i g f = f
+    label_step_fits place (Some name) ls i g f = add_label_fits _ ls (record { name = g; place = i; line = h }) f
 
     pub data_write_fits : (w : Write) (σ : Stored) → StoredFits t k σ → Gives (StoredFits t k) (data_write k line w σ)
     unfolding data_write
@@ -199,11 +200,11 @@ module _ (t : List ℕ) (k : Room) where
         (add_label_word_fits t line p (length bs) w σ.label_words h (omega (arith, g.0))
         (label_words_more t p (length bs) σ.label_words (omega (arith, g.0)) (f.few, f.each))))
 
-    pub data_line_fits : (rs : List (Result ℕ Write)) (σ : Stored) → StoredFits t k σ → Gives (StoredFits t k) (data_line k line rs σ)
+    pub data_line_fits : (rs : List (Result Write ℕ)) (σ : Stored) → StoredFits t k σ → Gives (StoredFits t k) (data_line k line rs σ)
     unfolding data_line
     data_line_fits [] σ f = f
-    data_line_fits (value w ∷ rs) σ f = and_then_gives _ _ (data_write k line w σ) (data_line k line rs) (data_write_fits w σ f) (data_line_fits rs)
-    data_line_fits (refused n ∷ rs) σ f = tt
+    data_line_fits (Ok w ∷ rs) σ f = and_then_gives _ _ (data_write k line w σ) (data_line k line rs) (data_write_fits w σ f) (data_line_fits rs)
+    data_line_fits (Err n ∷ rs) σ f = tt
 
   pub enters_fits : (s : Section) (σ : Own) → OwnFits t k σ → OwnFits t k (in_section s σ)
   enters_fits s σ f = record { items = f.items; stored = f.stored; bss = f.bss }
@@ -224,8 +225,8 @@ module _ (t : List ℕ) (k : Room) where
 
         by : (a b : Bool) → ltb (length σ.list) k.items ≡ a → leb (σ.words + n) k.words ≡ b
             → Gives {R = ℕ} (ItemsFit t k) (elim a [
-              | true ↦ elim b [ true ↦ value (record { list = σ.list ++ x ∷ []; words = σ.words + n }) | false ↦ refused 44 ]
-              | false ↦ refused 48
+              | true ↦ elim b [ true ↦ Ok (record { list = σ.list ++ x ∷ []; words = σ.words + n }) | false ↦ Err 44 ]
+              | false ↦ Err 48
             ])
         by true true q r =
             let room : σ.words + n ≤ k.words = leb-true _ _ r in
@@ -241,8 +242,8 @@ module _ (t : List ℕ) (k : Room) where
     pub text_line_fits : (p : Piece) (i : Item) (σ : Items) → Inside t p → ItemsFit t k σ → Gives (ItemsFit t k) (text_line k line p i σ)
     unfolding text_line
     text_line_fits p other σ g f = tt
-    text_line_fits p ordinary σ g f = add_item_fits none p σ g f
-    text_line_fits p (pseudo q) σ g f = add_item_fits (some q) p σ g f
+    text_line_fits p ordinary σ g f = add_item_fits None p σ g f
+    text_line_fits p (pseudo q) σ g f = add_item_fits (Some q) p σ g f
 
   module _ (few_words : k.words ≤ word_limit) (few_bytes : k.bytes ≤ data_limit) where
     -- a place that has been reached is within its section
@@ -259,7 +260,7 @@ module _ (t : List ℕ) (k : Room) where
       unfolding own_line
       own_line_fits s σ g f = by s g
         where
-          in_data : (rs : List (Result ℕ Write)) → Gives (OwnFits t k) (mapped (with_stored σ) (data_line k line rs σ.stored))
+          in_data : (rs : List (Result Write ℕ)) → Gives (OwnFits t k) (mapped (with_stored σ) (data_line k line rs σ.stored))
           in_data rs =
               mapped_gives (StoredFits t k) (OwnFits t k) (with_stored σ) (data_line k line rs σ.stored)
               (λ x i. record { items = f.items; stored = i; bss = f.bss }) (data_line_fits line h rs σ.stored f.stored)

@@ -6,7 +6,7 @@ use native.Mathlib.Omega.{arith}
 use mathlib.Core.Path.{◌≡◌, refl, sym, ap, ap₂, subst, ◌∙◌}
 use mathlib.Core.List.{List, [], ◌∷◌, ◌++◌, map}
 use mathlib.Core.Bool.{Bool, true, false, ◌&&◌, not, false≢true}
-use mathlib.Core.Option.{Option, none, some}
+use Rattle.std.proofs.Common.{Option, None, Some}
 use lib.Dec.{eqb}
 use lib.IntN.{ℤ}
 use lib.ListN.{length, take, drop, get_or, length-map, drop_of_length-le, get_or-map}
@@ -36,12 +36,12 @@ unfolding field_bytes little_endian
 known_sized k = refl
 
 maybe_round : (o : Option Found) → MaybeFits o → round_so_far o < 2 ^ 32
-maybe_round none m = omega arith
-maybe_round (some f) m = omega (arith, m.to)
+maybe_round None m = omega arith
+maybe_round (Some f) m = omega (arith, m.to)
 
 maybe_value : (o : Option Found) → MaybeFits o → in64 (value_so_far o) ≡ true
-maybe_value none m = refl
-maybe_value (some f) m = m.value
+maybe_value None m = refl
+maybe_value (Some f) m = m.value
 
 module _ {t b : List ℕ} {count : ℕ} {ks : List Known} (s : EquateRecords t b count ks) where
   pub equates_lent : count * equate_size ≤ length b
@@ -133,9 +133,9 @@ index_more t b ix k bucket e q h =
 
 -- ---- a name's value
 
-or_none : (o : Option ℤ) → or_else o none ≡ o
-or_none none = refl
-or_none (some z) = refl
+or_none : (o : Option ℤ) → or_else o None ≡ o
+or_none None = refl
+or_none (Some z) = refl
 
 pub constant_append : (xs ys : List Known) (n : List ℕ) → constant (xs ++ ys) n ≡ or_else (constant xs n) (constant ys n)
 unfolding constant
@@ -143,8 +143,8 @@ constant_append [] ys n = refl
 constant_append (x ∷ xs) ys n = by (same (known_name x) n) (constant_append xs ys n)
   where
     assoc : (a b d : Option ℤ) → or_else a (or_else b d) ≡ or_else (or_else a b) d
-    assoc none b d = refl
-    assoc (some z) b d = refl
+    assoc None b d = refl
+    assoc (Some z) b d = refl
 
     by : (t : Bool) → constant (xs ++ ys) n ≡ or_else (constant xs n) (constant ys n)
         → ◌≡◌ {A = Option ℤ} (elim t [ true ↦ or_else (found_value x.found) (constant (xs ++ ys) n) | false ↦ constant (xs ++ ys) n ])
@@ -152,14 +152,14 @@ constant_append (x ∷ xs) ys n = by (same (known_name x) n) (constant_append xs
     by true e = ap (or_else (found_value x.found)) e ∙ assoc (found_value x.found) (constant xs n) (constant ys n)
     by false e = e
 
-other_alone : (k : Known) (n : List ℕ) → same (known_name k) n ≡ false → constant (k ∷ []) n ≡ none
+other_alone : (k : Known) (n : List ℕ) → same (known_name k) n ≡ false → constant (k ∷ []) n ≡ None
 unfolding constant
 other_alone k n e = rw (constant, e) refl
 
 -- equates of other names add nothing
 constant_skip : (ks : List Known) (n : List ℕ) (m e : ℕ) → m + e ≤ length ks
     → ((i : ℕ) → m ≤ i → i < m + e → same (known_name (known_at ks i)) n ≡ false) → constant (take (m + e) ks) n ≡ constant (take m ks) n
-constant_skip ks n m zero h other = let None_more : m + zero ≡ m = omega arith in ap (λ (i : ℕ). constant (take i ks) n) None_more
+constant_skip ks n m zero h other = let none_more : m + zero ≡ m = omega arith in ap (λ (i : ℕ). constant (take i ks) n) none_more
 constant_skip ks n m (suc e) h other =
     let more : m + suc e ≡ suc (m + e) = omega arith in
     ap (λ (i : ℕ). constant (take i ks) n) more
@@ -169,7 +169,7 @@ constant_skip ks n m (suc e) h other =
     ∙ or_none (constant (take (m + e) ks) n)
     ∙ constant_skip ks n m e (omega arith) (λ i a l. other i a (omega arith))
   where
-    alone : same (known_name (known_at ks (m + e))) n ≡ false → constant (known_at ks (m + e) ∷ []) n ≡ none
+    alone : same (known_name (known_at ks (m + e))) n ≡ false → constant (known_at ks (m + e) ∷ []) n ≡ None
     alone q = other_alone (known_at ks (m + e)) n q
 
 -- ---- along a bucket's chain
@@ -178,22 +178,22 @@ constant_skip ks n m (suc e) h other =
 abbrev pub is_found : Known → List ℕ → Bool
 is_found k n = not (eqb (round_so_far k.found) 0) && same (known_name k) n
 
-found_alone : (k : Known) (n : List ℕ) → MaybeFits k.found → is_found k n ≡ true → constant (k ∷ []) n ≡ some (value_so_far k.found)
+found_alone : (k : Known) (n : List ℕ) → MaybeFits k.found → is_found k n ≡ true → constant (k ∷ []) n ≡ Some (value_so_far k.found)
 unfolding constant
 found_alone k n m h = by k.found refl m (and_right (not (eqb (round_so_far k.found) 0)) (same (known_name k) n) h) (and_left (not (eqb (round_so_far k.found) 0)) (same (known_name k) n) h)
   where
-    by : (o : Option Found) → k.found ≡ o → MaybeFits o → same (known_name k) n ≡ true → not (eqb (round_so_far o) 0) ≡ true → constant (k ∷ []) n ≡ some (value_so_far o)
-    by none e m q r = absurd (false≢true r)
-    by (some f) e m q r = rw (constant, q) (ap (λ (o : Option Found). or_else (found_value o) none) e)
+    by : (o : Option Found) → k.found ≡ o → MaybeFits o → same (known_name k) n ≡ true → not (eqb (round_so_far o) 0) ≡ true → constant (k ∷ []) n ≡ Some (value_so_far o)
+    by None e m q r = absurd (false≢true r)
+    by (Some f) e m q r = rw (constant, q) (ap (λ (o : Option Found). or_else (found_value o) None) e)
 
-pending_alone : (k : Known) (n : List ℕ) → MaybeFits k.found → is_found k n ≡ false → constant (k ∷ []) n ≡ none
+pending_alone : (k : Known) (n : List ℕ) → MaybeFits k.found → is_found k n ≡ false → constant (k ∷ []) n ≡ None
 unfolding constant
 pending_alone k n m h = by (same (known_name k) n) refl k.found refl m h
   where
-    by : (t : Bool) → same (known_name k) n ≡ t → (o : Option Found) → k.found ≡ o → MaybeFits o → not (eqb (round_so_far o) 0) && t ≡ false → constant (k ∷ []) n ≡ none
+    by : (t : Bool) → same (known_name k) n ≡ t → (o : Option Found) → k.found ≡ o → MaybeFits o → not (eqb (round_so_far o) 0) && t ≡ false → constant (k ∷ []) n ≡ None
     by false q o e m r = rw (constant, q) refl
-    by true q none e m r = rw (constant, q) (ap (λ (o : Option Found). or_else (found_value o) none) e)
-    by true q (some f) e m r = absurd (false≢true (sym r ∙ rw (ne_eqb f.round 0 (λ z. omega (arith, z, m.from))) refl))
+    by true q None e m r = rw (constant, q) (ap (λ (o : Option Found). or_else (found_value o) None) e)
+    by true q (Some f) e m r = absurd (false≢true (sym r ∙ rw (ne_eqb f.round 0 (λ z. omega (arith, z, m.from))) refl))
 
 -- searched in order: from here on the name's value is the whole list's
 module _ {t b ix : List ℕ} {count : ℕ} {ks : List Known} (s : EquateTable t b ix count ks) (n : List ℕ) (j : ℕ) (h : j < length ks) where
@@ -206,22 +206,22 @@ module _ {t b ix : List ℕ} {count : ℕ} {ks : List Known} (s : EquateTable t 
   fits_found : MaybeFits (known_at ks j).found
   fits_found = (each_at (KnownFits t) ks no_known j s.rows.fits h).found
 
-  pub order_hit : is_found (known_at ks j) n ≡ true → some (equate_record_at b j).value ≡ constant (drop j ks) n
+  pub order_hit : is_found (known_at ks j) n ≡ true → Some (equate_record_at b j).value ≡ constant (drop j ks) n
   order_hit e =
-      ap some (value_back s.rows j h)
+      ap Some (value_back s.rows j h)
       ∙ sym (first_of ∙ ap (λ (o : Option ℤ). or_else o (constant (drop (j + 1) ks) n)) (found_alone (known_at ks j) n fits_found e))
 
   pub order_miss : is_found (known_at ks j) n ≡ false → constant (drop (j + 1) ks) n ≡ constant (drop j ks) n
   order_miss e = sym (first_of ∙ ap (λ (o : Option ℤ). or_else o (constant (drop (j + 1) ks) n)) (pending_alone (known_at ks j) n fits_found e))
 
-pub order_end : (ks : List Known) (n : List ℕ) (j : ℕ) → length ks ≤ j → none ≡ constant (drop j ks) n
+pub order_end : (ks : List Known) (n : List ℕ) (j : ℕ) → length ks ≤ j → None ≡ constant (drop j ks) n
 unfolding constant
 order_end ks n j h = sym (ap (λ (l : List Known). constant l n) (drop_of_length-le ks {i = j} h))
 
 -- the value in the record before an entry
 abbrev pub entry_value : List Known → ℕ → Option ℤ
-entry_value ks zero = none
-entry_value ks (suc k) = some (value_so_far (known_at ks k).found)
+entry_value ks zero = None
+entry_value ks (suc k) = Some (value_so_far (known_at ks k).found)
 
 -- what the names below the entry give comes before what was found above it
 pub record Seeking (ks : List Known) (n : List ℕ) (found entry : ℕ) : Type 0 where
@@ -258,7 +258,7 @@ module _ {t b ix : List ℕ} {count : ℕ} {ks : List Known} (s : EquateTable t 
   seek_first bucket e =
       rw (e, s.indexed.head (bucket_of n) (bucket_below n), names_length)
       (from_last (length ks) _ 0 (omega arith) (omega arith) (last_is (map known_name ks) (bucket_of n) (length ks))
-      (ap (λ (l : List Known). or_else (constant l n) none) (take_all (length ks) ks (omega arith)) ∙ or_none (constant ks n)))
+      (ap (λ (l : List Known). or_else (constant l n) None) (take_all (length ks) ks (omega arith)) ∙ or_none (constant ks n)))
 
   module _ (found c : ℕ) (left : 0 < c) (w : Seeking ks n found c) where
     chain : Last (map known_name ks) (bucket_of n) (c - 1) (get_or ix (buckets + (c - 1)) 0)
@@ -287,9 +287,9 @@ module _ {t b ix : List ℕ} {count : ℕ} {ks : List Known} (s : EquateTable t 
         (sym (found_alone (known_at ks (c - 1)) n (each_at (KnownFits t) ks no_known (c - 1) s.rows.fits (omega (arith, w.le))).found h))
         ∙ ap (λ (o : Option ℤ). or_else o (entry_value ks found)) (sym taken) ∙ w.goes)
       where
-        stays : (a q : Option ℤ) → or_else (or_else a (some (value_so_far (known_at ks (c - 1)).found))) q ≡ or_else a (some (value_so_far (known_at ks (c - 1)).found))
-        stays none q = refl
-        stays (some z) q = refl
+        stays : (a q : Option ℤ) → or_else (or_else a (Some (value_so_far (known_at ks (c - 1)).found))) q ≡ or_else a (Some (value_so_far (known_at ks (c - 1)).found))
+        stays None q = refl
+        stays (Some z) q = refl
 
     pub seek_miss : is_found (known_at ks (c - 1)) n ≡ false → Seeking ks n found (get_or ix (buckets + (c - 1)) 0)
     seek_miss h =
@@ -306,13 +306,13 @@ module _ {t b ix : List ℕ} {count : ℕ} {ks : List Known} (s : EquateTable t 
     seek_end = let e : c ≡ 0 = omega arith in sym (ap (λ (i : ℕ). or_else (constant (take i ks) n) (entry_value ks found)) e) ∙ w.goes
 
     -- nothing was found, or the record before the entry has the value
-    pub seek_none : found ≡ 0 → none ≡ constant ks n
+    pub seek_none : found ≡ 0 → None ≡ constant ks n
     seek_none e = sym (ap (entry_value ks) e) ∙ seek_end
 
-    pub seek_value : (found ≡ 0 → ⊥) → some (equate_record_at b (found - 1)).value ≡ constant ks n
+    pub seek_value : (found ≡ 0 → ⊥) → Some (equate_record_at b (found - 1)).value ≡ constant ks n
     seek_value h =
         let pred : found ≡ suc (found - 1) = omega (arith, h) in
-        ap (λ (v : ℤ). some v) (value_back s.rows (found - 1) (omega (arith, w.within, h))) ∙ sym (ap (entry_value ks) pred) ∙ seek_end
+        ap (λ (v : ℤ). Some v) (value_back s.rows (found - 1) (omega (arith, w.within, h))) ∙ sym (ap (entry_value ks) pred) ∙ seek_end
 
   -- what the record says of round and name
   pub found_as_read : (k : ℕ) → k < length ks → (r : Bool)
@@ -325,33 +325,33 @@ table_room {ks = ks} s = omega (arith, s.indexed.room, length-map ks known_name)
 -- ---- pending or found
 
 -- as the record has it: a round of 0 while it is pending
-pub pending_is : (k : Known) → MaybeFits k.found → round_so_far k.found ≡ 0 → k.found ≡ none
+pub pending_is : (k : Known) → MaybeFits k.found → round_so_far k.found ≡ 0 → k.found ≡ None
 pending_is k m h = by k.found refl m h
   where
-    by : (o : Option Found) → k.found ≡ o → MaybeFits o → round_so_far o ≡ 0 → o ≡ none
-    by none e m h = refl
-    by (some f) e m h = absurd (omega (arith, m.from, h))
+    by : (o : Option Found) → k.found ≡ o → MaybeFits o → round_so_far o ≡ 0 → o ≡ None
+    by None e m h = refl
+    by (Some f) e m h = absurd (omega (arith, m.from, h))
 
-pub found_is : (k : Known) → (round_so_far k.found ≡ 0 → ⊥) → (f : Found) × (k.found ≡ some f)
+pub found_is : (k : Known) → (round_so_far k.found ≡ 0 → ⊥) → (f : Found) × (k.found ≡ Some f)
 found_is k h = by k.found refl
   where
-    by : (o : Option Found) → k.found ≡ o → (f : Found) × (o ≡ some f)
-    by none e = absurd (h (ap round_so_far e))
-    by (some f) e = (f, refl)
+    by : (o : Option Found) → k.found ≡ o → (f : Found) × (o ≡ Some f)
+    by None e = absurd (h (ap round_so_far e))
+    by (Some f) e = (f, refl)
 
-first_pending_lem : (k : Known) (ks : List Known) → k.found ≡ none → first_pending (k ∷ ks) ≡ k.equate.line
+first_pending_lem : (k : Known) (ks : List Known) → k.found ≡ None → first_pending (k ∷ ks) ≡ k.equate.line
 unfolding first_pending
-first_pending_lem k ks e = ap (λ (o : Option Found). elim o [ none ↦ k.equate.line | some f ↦ first_pending ks ]) e
+first_pending_lem k ks e = ap (λ (o : Option Found). elim o [ None ↦ k.equate.line | Some f ↦ first_pending ks ]) e
 
-first_found : (k : Known) (ks : List Known) (f : Found) → k.found ≡ some f → first_pending (k ∷ ks) ≡ first_pending ks
+first_found : (k : Known) (ks : List Known) (f : Found) → k.found ≡ Some f → first_pending (k ∷ ks) ≡ first_pending ks
 unfolding first_pending
-first_found k ks f e = ap (λ (o : Option Found). elim o [ none ↦ k.equate.line | some g ↦ first_pending ks ]) e
+first_found k ks f e = ap (λ (o : Option Found). elim o [ None ↦ k.equate.line | Some g ↦ first_pending ks ]) e
 
 module _ {t b : List ℕ} {count : ℕ} {ks : List Known} (s : EquateRecords t b count ks) (k : ℕ) where
-  pub pending_at : k < length ks → (equate_record_at b k).round ≡ 0 → (known_at ks k).found ≡ none
+  pub pending_at : k < length ks → (equate_record_at b k).round ≡ 0 → (known_at ks k).found ≡ None
   pending_at h e = pending_is (known_at ks k) (fits_at s k h).found (sym (round_back s k h) ∙ e)
 
-  pub found_at : k < length ks → ((equate_record_at b k).round ≡ 0 → ⊥) → (f : Found) × ((known_at ks k).found ≡ some f)
+  pub found_at : k < length ks → ((equate_record_at b k).round ≡ 0 → ⊥) → (f : Found) × ((known_at ks k).found ≡ Some f)
   found_at h n = found_is (known_at ks k) (λ e. n (round_back s k h ∙ e))
 
   -- the first pending one: here, further on, nowhere

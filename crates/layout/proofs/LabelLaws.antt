@@ -4,11 +4,11 @@ use native.Mathlib.Omega.{arith}
 use mathlib.Core.Path.{◌≡◌, refl, sym, ap, ◌∙◌}
 use mathlib.Core.List.{List, [], ◌∷◌, ◌++◌, map, map-map, map-append}
 use mathlib.Core.Bool.{Bool, true, false, ◌||◌, false≢true}
-use mathlib.Core.Option.{Option, none, some}
+use Rattle.std.proofs.Common.{Option, None, Some}
 use lib.ListN.{length, get_or, set, length-append, length-map, length-set}
 use borrow.Author.Tests.{lt-ltb, le-ltb}
 use Rattle.numbers.specs.declared.text.Span.{Span}
-use Rattle.numbers.specs.Results.{value, refused}
+use Rattle.std.proofs.Common.{Ok, Err}
 use Rattle.numbers.specs.Text.{same}
 use Rattle.numbers.proofs.Bools.{none-some}
 use Rattle.numbers.proofs.Prefixes.{same_equal}
@@ -84,24 +84,24 @@ searched n ls names o e = ap (lookup_in n 0) (sym names) ∙ sym e
 pub record LabelKnown (x : Label) (ls : List Label) (k : ℕ) : Type 0 where
   pub below : k < length ls
   pub known : is_label x.name.bytes ls ≡ true
-  pub address : (base : ℕ) (σ : State) → address_in base σ ls x.name.bytes ≡ some (address_at base σ (get_or ls k x).place)
+  pub address : (base : ℕ) (σ : State) → address_in base σ ls x.name.bytes ≡ Some (address_at base σ (get_or ls k x).place)
   pub replaced : recorded x ls ≡ set ls k x
 
 -- none has it, and x is one more
 pub record New (x : Label) (ls : List Label) : Type 0 where
   pub unknown : is_label x.name.bytes ls ≡ false
-  pub nowhere : (base : ℕ) (σ : State) → address_in base σ ls x.name.bytes ≡ none
+  pub nowhere : (base : ℕ) (σ : State) → address_in base σ ls x.name.bytes ≡ None
   pub more : recorded x ls ≡ ls ++ x ∷ []
 
 module _ (x : Label) where
-  known_from : (ls : List Label) (j k : ℕ) → lookup_in (label_name x) j (map label_name ls) ≡ some k → (i : ℕ) × (k ≡ j + i) × LabelKnown x ls i
+  known_from : (ls : List Label) (j k : ℕ) → lookup_in (label_name x) j (map label_name ls) ≡ Some k → (i : ℕ) × (k ≡ j + i) × LabelKnown x ls i
   unfolding lookup_in is_label address_in recorded
   known_from [] j k e = absurd (none-some e)
   known_from (l ∷ ls) j k e = by (same l.name.bytes x.name.bytes) refl e (known_from ls (suc j) k)
     where
       by : (c : Bool) → same l.name.bytes x.name.bytes ≡ c
-          → ◌≡◌ {A = Option ℕ} (elim c [ true ↦ some j | false ↦ lookup_in (label_name x) (suc j) (map label_name ls) ]) (some k)
-          → (lookup_in (label_name x) (suc j) (map label_name ls) ≡ some k → (i : ℕ) × (k ≡ suc j + i) × LabelKnown x ls i)
+          → ◌≡◌ {A = Option ℕ} (elim c [ true ↦ Some j | false ↦ lookup_in (label_name x) (suc j) (map label_name ls) ]) (Some k)
+          → (lookup_in (label_name x) (suc j) (map label_name ls) ≡ Some k → (i : ℕ) × (k ≡ suc j + i) × LabelKnown x ls i)
           → (i : ℕ) × (k ≡ j + i) × LabelKnown x (l ∷ ls) i
       by true q e more =
           let p : j ≡ k = cc in (
@@ -126,20 +126,20 @@ module _ (x : Label) where
             },
           )
 
-  pub look_known : (ls : List Label) (k : ℕ) → lookup_in (label_name x) 0 (map label_name ls) ≡ some k → LabelKnown x ls k
+  pub look_known : (ls : List Label) (k : ℕ) → lookup_in (label_name x) 0 (map label_name ls) ≡ Some k → LabelKnown x ls k
   look_known ls k e =
       let m = known_from ls 0 k e in
       let q : k ≡ m.0 = omega (arith, m.1) in
       rw q m.2
 
-  pub look_new : (ls : List Label) (j : ℕ) → lookup_in (label_name x) j (map label_name ls) ≡ none → New x ls
+  pub look_new : (ls : List Label) (j : ℕ) → lookup_in (label_name x) j (map label_name ls) ≡ None → New x ls
   unfolding lookup_in is_label address_in recorded
   look_new [] j e = record { unknown = refl; nowhere = λ base σ. refl; more = refl }
   look_new (l ∷ ls) j e = by (same l.name.bytes x.name.bytes) refl e (look_new ls (suc j))
     where
       by : (c : Bool) → same l.name.bytes x.name.bytes ≡ c
-          → ◌≡◌ {A = Option ℕ} (elim c [ true ↦ some j | false ↦ lookup_in (label_name x) (suc j) (map label_name ls) ]) none
-          → (lookup_in (label_name x) (suc j) (map label_name ls) ≡ none → New x ls) → New x (l ∷ ls)
+          → ◌≡◌ {A = Option ℕ} (elim c [ true ↦ Some j | false ↦ lookup_in (label_name x) (suc j) (map label_name ls) ]) None
+          → (lookup_in (label_name x) (suc j) (map label_name ls) ≡ None → New x ls) → New x (l ∷ ls)
       by true q e more = absurd (none-some (sym e))
       by false q e more =
           let m = more e in
@@ -178,13 +178,13 @@ known_names x (l ∷ ls) e = by (same l.name.bytes x.name.bytes) refl e (known_n
 module _ (t : List ℕ) (k : Room) (count : ℕ) (b b' : LabelStore) (x : Label) (small : length t ≤ text_limit) (fits : LabelFits t x)
     (same_size : length b'.records ≡ length b.records) (ls : List Label) (s : LabelsStand t k count b ls) where
   -- a label of this name is there: it is replaced
-  pub label_known : (j : ℕ) → some j ≡ lookup_in (label_name x) 0 (label_names t b.records 0 count)
+  pub label_known : (j : ℕ) → Some j ≡ lookup_in (label_name x) 0 (label_names t b.records 0 count)
       → b'.records ≡ put (j * label_size) (field_bytes (label_so_far x)) b.records → b'.index ≡ b.index
-      → Agrees (λ c. LabelsStand t k c b') (value count) (add_label k x ls)
+      → Agrees (λ c. LabelsStand t k c b') (Ok count) (add_label k x ls)
   unfolding add_label
   label_known j e q i =
-      let r = look_known x ls j (searched (label_name x) ls (stand_names s small) (some j) e) in
-      let goes : add_label k x ls ≡ value (recorded x ls) = rw (add_label, r.known) refl in
+      let r = look_known x ls j (searched (label_name x) ls (stand_names s small) (Some j) e) in
+      let goes : add_label k x ls ≡ Ok (recorded x ls) = rw (add_label, r.known) refl in
       rw goes
       (record {
         counted = s.counted ∙ sym (recorded_known x ls r.known);
@@ -197,17 +197,17 @@ module _ (t : List ℕ) (k : Room) (count : ℕ) (b b' : LabelStore) (x : Label)
         distinct = rw (known_names x ls r.known) s.distinct;
       })
 
-  module _ (e : none ≡ lookup_in (label_name x) 0 (label_names t b.records 0 count)) where
+  module _ (e : None ≡ lookup_in (label_name x) 0 (label_names t b.records 0 count)) where
     -- there is none, and room for one more
     pub label_new : count < k.labels → b'.records ≡ put (count * label_size) (field_bytes (label_so_far x)) b.records
         → (bucket : ℕ) → bucket ≡ bucket_of (label_name x) → b'.index ≡ inserted count bucket b.index
-        → Agrees (λ c. LabelsStand t k c b') (value (count + 1)) (add_label k x ls)
+        → Agrees (λ c. LabelsStand t k c b') (Ok (count + 1)) (add_label k x ls)
     unfolding add_label
     label_new h q bucket is i =
-        let nowhere = searched (label_name x) ls (stand_names s small) none e in
+        let nowhere = searched (label_name x) ls (stand_names s small) None e in
         let r = look_new x ls 0 nowhere in
         let below : length ls < k.labels = omega (arith, s.counted) in
-        let goes : add_label k x ls ≡ value (recorded x ls) = rw (add_label, r.unknown, lt-ltb (length ls) k.labels below) refl in
+        let goes : add_label k x ls ≡ Ok (recorded x ls) = rw (add_label, r.unknown, lt-ltb (length ls) k.labels below) refl in
         let names : map label_name (recorded x ls) ≡ map label_name ls ++ label_name x ∷ [] = ap (map label_name) r.more ∙ map-append label_name ls (x ∷ []) in
         let size : length (map label_name ls) ≡ count = length-map ls label_name ∙ sym s.counted in
         rw goes
@@ -223,8 +223,8 @@ module _ (t : List ℕ) (k : Room) (count : ℕ) (b b' : LabelStore) (x : Label)
         })
 
     -- there is none, and no room
-    pub label-full : k.labels ≤ count → Agrees (λ c. LabelsStand t k c b') (refused 45) (add_label k x ls)
+    pub label-full : k.labels ≤ count → Agrees (λ c. LabelsStand t k c b') (Err 45) (add_label k x ls)
     unfolding add_label
     label-full h =
-        let r = look_new x ls 0 (searched (label_name x) ls (stand_names s small) none e) in
+        let r = look_new x ls 0 (searched (label_name x) ls (stand_names s small) None e) in
         rw (add_label, r.unknown, le-ltb (length ls) k.labels (omega (arith, s.counted))) refl

@@ -5,7 +5,7 @@ use native.Mathlib.Omega.{arith}
 use mathlib.Core.Path.{◌≡◌, refl, sym, ap, ap₂, ◌∙◌}
 use mathlib.Core.List.{List, [], ◌∷◌, map}
 use mathlib.Core.Bool.{Bool, true, false}
-use mathlib.Core.Option.{none, some}
+use Rattle.std.proofs.Common.{None, Some}
 use lib.ListN.{length, drop, get_or, replicate, length-append, drop_of_length-le}
 use lib.Seq.{drop-cons}
 use lib.Dec.{eqb}
@@ -47,11 +47,11 @@ name_listed t b n i h = names_from-here t b 0 n i h ∙ ap (label_name_at t b) (
 -- searched in order: the first record of a name, or none
 module _ (t b n : List ℕ) (count : ℕ) where
   pub found_in_order : (k : ℕ) → k < count → same (label_name_at t b k) n ≡ true → ((i : ℕ) → i < k → same (label_name_at t b i) n ≡ false)
-      → some k ≡ lookup_in n 0 (label_names t b 0 count)
+      → Some k ≡ lookup_in n 0 (label_names t b 0 count)
   found_in_order k h e before =
       sym (lookup_at (label_names t b 0 count) n 0 k (omega (arith, names_size t b 0 count)) (rw (name_listed t b count k h) e)
       (λ i l. rw (name_listed t b count i (omega arith)) (before i l))
-      ∙ ap some (zero-add k))
+      ∙ ap Some (zero-add k))
 
   -- the records up to here have other names, and so has this one
   pub others_more : (k : ℕ) → ((i : ℕ) → i < k → same (label_name_at t b i) n ≡ false) → same (label_name_at t b k) n ≡ false
@@ -62,7 +62,7 @@ module _ (t b n : List ℕ) (count : ℕ) where
       by true q = ap (λ (j : ℕ). same (label_name_at t b j) n) (eqb-true i k q) ∙ e
       by false q = before i (omega (arith, eqb-false i k q))
 
-  pub none_in_order : ((i : ℕ) → i < count → same (label_name_at t b i) n ≡ false) → none ≡ lookup_in n 0 (label_names t b 0 count)
+  pub none_in_order : ((i : ℕ) → i < count → same (label_name_at t b i) n ≡ false) → None ≡ lookup_in n 0 (label_names t b 0 count)
   none_in_order all =
       sym (lookup_none (label_names t b 0 count) n 0 (λ i l.
       let h : i < count = omega (arith, names_size t b 0 count) in

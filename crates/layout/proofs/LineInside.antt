@@ -4,10 +4,10 @@ use native.Mathlib.Omega.{arith}
 use mathlib.Core.Path.{◌≡◌, refl}
 use mathlib.Core.List.{List, [], ◌∷◌}
 use mathlib.Core.Bool.{Bool, true, false, cond, not, ◌&&◌, ◌||◌}
-use mathlib.Core.Option.{Option, none, some}
+use Rattle.std.proofs.Common.{Option, None, Some}
 use lib.Dec.{eqb}
 use lib.ListN.{length, take}
-use Rattle.numbers.specs.Results.{Result, value, refused}
+use Rattle.std.proofs.Common.{Result, Ok, Err}
 use Rattle.numbers.specs.Text.{text, byte, is_space, trimmed, starts_with, same}
 use Rattle.numbers.proofs.Bools.{and_left, and_right}
 use Rattle.layout.specs.declared.state.Section.{Section}
@@ -36,8 +36,8 @@ use Rattle.layout.proofs.Inside.{trim_inside, from_inside, first_inside, before_
 -- ---- what a line hands on of the text
 
 abbrev pub LabelInside : List ℕ → Option Piece → Type 0
-LabelInside t none = Unit
-LabelInside t (some name) = Inside t name
+LabelInside t None = Unit
+LabelInside t (Some name) = Inside t name
 
 -- a string adds one byte 0 at most
 abbrev pub OwnInside : List ℕ → OwnStatement → Type 0
@@ -60,10 +60,10 @@ pub record LineInside (t : List ℕ) (l : Line) : Type 0 where
 -- ---- statements
 
 module _ (t : List ℕ) where
-  abbrev pub SaysInside : Result ℕ Statement → Type 0
+  abbrev pub SaysInside : Result Statement ℕ → Type 0
   SaysInside x = Gives (StatementInside t) x
 
-  either : (c : Bool) (x y : Result ℕ Statement) → SaysInside x → SaysInside y → SaysInside (cond c x y)
+  either : (c : Bool) (x y : Result Statement ℕ) → SaysInside x → SaysInside y → SaysInside (cond c x y)
   either = cond_has SaysInside
 
   named_inside : (n : List ℕ) → SaysInside (section_named n)
@@ -150,8 +150,8 @@ module _ (t : List ℕ) where
   directive_inside s (directive.Stores x) b p rest z g h = stores_inside s x p rest z g h
 
   row_inside : (o : Option Row) (s : Section) (p : Piece) → SpelledWithin (row_code o) (length p.bytes) → Inside t p → SaysInside (on_row o s p)
-  row_inside none s p w g = assignment_inside s p g
-  row_inside (some r) s p w g = directive_inside s r.directive r.in_data p _ w.1 g (from_inside t p (length r.name) w.0 g)
+  row_inside None s p w g = assignment_inside s p g
+  row_inside (Some r) s p w g = directive_inside s r.directive r.in_data p _ w.1 g (from_inside t p (length r.name) w.0 g)
 
   pub unlabelled_inside : (s : Section) (p : Piece) → Inside t p → SaysInside (unlabelled_of s p)
   unfolding unlabelled_of
@@ -175,21 +175,21 @@ module _ (t : List ℕ) where
   labelled_inside s p g = record { label = label_inside p g; says = unlabelled_inside s _ (after_inside_label p p (λ e. e) g) }
 
   -- a string's operand, from behind its directive to the line's end
-  operand_inside : (s : Section) (l p q : Piece) → Inside t l → Inside t p → Within l q → (x : Result ℕ Statement) → SaysStores s q x → SaysInside x
+  operand_inside : (s : Section) (l p q : Piece) → Inside t l → Inside t p → Within l q → (x : Result Statement ℕ) → SaysStores s q x → SaysInside x
       → LineInside t (string_or (string_in l x) s p)
-  operand_inside s l p q g h w (value (own (stores (Text zeros) rest))) i j =
+  operand_inside s l p q g h w (Ok (own (stores (Text zeros) rest))) i j =
       let n = operand_starts l q w s rest i in
       record { label = label_inside _ (before_inside t p _ h); says = (j.0, from_inside t l (rest.at - l.at) (omega (arith, n)) g) }
-  operand_inside s l p q g h w (value (own (stores (Numbers x) rest))) i j = labelled_inside s p h
-  operand_inside s l p q g h w (value (own (stores Float rest))) i j = labelled_inside s p h
-  operand_inside s l p q g h w (value (own (item x))) i j = labelled_inside s p h
-  operand_inside s l p q g h w (value (own (string _ rest))) i j = labelled_inside s p h
-  operand_inside s l p q g h w (value (own (reserves x rest))) i j = labelled_inside s p h
-  operand_inside s l p q g h w (value (own (reserves_bss x rest))) i j = labelled_inside s p h
-  operand_inside s l p q g h w (value nothing) i j = labelled_inside s p h
-  operand_inside s l p q g h w (value (enters x)) i j = labelled_inside s p h
-  operand_inside s l p q g h w (value (equate name x)) i j = labelled_inside s p h
-  operand_inside s l p q g h w (refused n) i j = labelled_inside s p h
+  operand_inside s l p q g h w (Ok (own (stores (Numbers x) rest))) i j = labelled_inside s p h
+  operand_inside s l p q g h w (Ok (own (stores Float rest))) i j = labelled_inside s p h
+  operand_inside s l p q g h w (Ok (own (item x))) i j = labelled_inside s p h
+  operand_inside s l p q g h w (Ok (own (string _ rest))) i j = labelled_inside s p h
+  operand_inside s l p q g h w (Ok (own (reserves x rest))) i j = labelled_inside s p h
+  operand_inside s l p q g h w (Ok (own (reserves_bss x rest))) i j = labelled_inside s p h
+  operand_inside s l p q g h w (Ok nothing) i j = labelled_inside s p h
+  operand_inside s l p q g h w (Ok (enters x)) i j = labelled_inside s p h
+  operand_inside s l p q g h w (Ok (equate name x)) i j = labelled_inside s p h
+  operand_inside s l p q g h w (Err n) i j = labelled_inside s p h
 
   -- of a line and its statement
   parsed_inside : (s : Section) (l p : Piece) → Within l p → Inside t l → Inside t p → LineInside t (parsed s l p)

@@ -1,16 +1,20 @@
 -- A cut line in its parts: its label and what follows it say what the definition reads in the line.
+use Rattle.layout.specs.Code.Numbers.{numbered}
+use Rattle.layout.specs.Code.Spans.{LineStands}
+use Rattle.layout.specs.declared.refusal.Refusal.{Refusal}
+use Rattle.layout.specs.declared.line.Line as code_line
 use Prim.Native.Nat.{ℕ, suc, ◌+◌, ◌-◌, min, ◌≤◌, ◌<◌}
 use mathlib.Core.Path.{◌≡◌, refl, sym, ap, ◌∙◌, subst}
 use mathlib.Core.List.{List, [], ◌∷◌}
 use mathlib.Core.Bool.{Bool, true, false, cond, true≢false}
-use mathlib.Core.Option.{Option, none, some}
+use Rattle.std.proofs.Common.{Option, None, Some}
 use native.Mathlib.Omega.{arith}
 use lib.Dec.{ltb, eqb}
 use lib.ListN.{length, take, drop, length-take, length-drop}
 use lib.Seq.{take-take}
 use borrow.Author.Tests.{lt-ltb, le-ltb, ltb-true, ltb-false, eq-eqb, eqb-true}
 use Rattle.numbers.specs.declared.text.Span.{Span}
-use Rattle.numbers.specs.Results.{Result, value}
+use Rattle.std.proofs.Common.{Result, Ok}
 use Rattle.numbers.specs.Text.{byte, is_space, leading, leading_spaces, index_of}
 use Rattle.numbers.specs.Code.Spans.{spanned}
 use Rattle.numbers.proofs.Bools.{and_left, and_right}
@@ -23,15 +27,14 @@ use Rattle.layout.specs.declared.directives.Source.TheVariants.{Stores, String}
 use Rattle.layout.specs.declared.line.OwnStatement.TheVariants.{InData}
 use Rattle.layout.specs.declared.line.Statement as code
 use Rattle.layout.specs.declared.line.Statement.TheVariants.{Nothing, Own}
-use Rattle.layout.specs.declared.line.LabelPart.TheVariants.{Unnamed}
 use Rattle.layout.specs.declared.line.Labelled.{Labelled}
 use Rattle.layout.specs.declared.scan.Cut.{Cut}
 use Rattle.layout.specs.Pieces.{Piece, from_byte, from_place, holds}
 use Rattle.layout.specs.Directives.{directives, row_in}
 use Rattle.layout.specs.Statements.{OwnStatement, stores, Statement, nothing, own, is_section_line, section_line, unlabelled_of, Line, label_in, after_label}
 use Rattle.layout.specs.Statements.{labelled, string_in, parsed, line_of}
-use Rattle.layout.specs.Code.Steps.{Some}
-use Rattle.layout.specs.Code.Spans.{span_of, piece_at, statement_code, line_code}
+use Rattle.layout.specs.Code.Steps.{Exists}
+use Rattle.layout.specs.Code.Spans.{span_of, piece_at, statement_code}
 use Rattle.layout.specs.Code.Cuts.{cut_line, LineCut, is_string_row, is_bare, label_by, rest_by, Parted, Follows, quote_between, ended_by, to_line_end, says_in}
 use Rattle.layout.proofs.CutLaws.{cut_statement, cut_long}
 use Rattle.layout.proofs.Each.{cond_has}
@@ -41,12 +44,12 @@ use Rattle.layout.proofs.StringLaws.{string_line, elsewhere_parsed, plain-parsed
 -- ---- what says the same in its line
 
 module _ (t : List ℕ) (c : Cut) (q : Span) where
-  pub said_as_is : (x : Result ℕ Statement) → string_in (cut_line t c) x ≡ none → (r : code.Statement) → r ≡ statement_code x → r ≡ statement_code (says_in t c q x)
+  pub said_as_is : (x : Result Statement ℕ) → string_in (cut_line t c) x ≡ None → (r : Result code.Statement ℕ) → r ≡ statement_code x → r ≡ statement_code (says_in t c q x)
   said_as_is x e r f = rw (as_is (cut_line t c) (quote_between t c.part.start q.start) x e) f
 
-  pub said_empty : (s : Section) → length (spanned t q) ≡ 0 → Nothing ≡ statement_code (says_in t c q (unlabelled_of s (piece_at t q)))
+  pub said_empty : (s : Section) → length (spanned t q) ≡ 0 → Ok Nothing ≡ statement_code (says_in t c q (unlabelled_of s (piece_at t q)))
   unfolding unlabelled_of
-  said_empty s h = rw (eq-eqb (length (spanned t q)) 0 h) (said_as_is (value nothing) refl Nothing refl)
+  said_empty s h = rw (eq-eqb (length (spanned t q)) 0 h) (said_as_is (Ok nothing) refl (Ok Nothing) refl)
 
 -- ---- what is stored
 
@@ -65,26 +68,29 @@ operand_span l q end e a b =
     rw (at, long) refl
 
 module _ (t : List ℕ) (c : Cut) (part rest : Span) where
+  abbrev string_said : ℕ → Span → Result code.Statement ℕ
+  string_said zeros x = Ok (Own (InData (String zeros) x))
+
   -- no string
   pub stored_other : (x : Store) → ((zeros : ℕ) → x ≡ Text zeros → ⊥) → (q : Piece) → rest ≡ span_of q
-      → Own (InData (Stores x) rest) ≡ statement_code (says_in t c part (value (own (stores x q))))
-  stored_other (Numbers w) h q e = rw (as_is (cut_line t c) (quote_between t c.part.start part.start) (value (own (stores (Numbers w) q))) refl, e) refl
+      → Ok (Own (InData (Stores x) rest)) ≡ statement_code (says_in t c part (Ok (own (stores x q))))
+  stored_other (Numbers w) h q e = rw (as_is (cut_line t c) (quote_between t c.part.start part.start) (Ok (own (stores (Numbers w) q))) refl, e) refl
   stored_other (Text zeros) h q e = absurd (h zeros refl)
-  stored_other Float h q e = rw (as_is (cut_line t c) (quote_between t c.part.start part.start) (value (own (stores Float q))) refl, e) refl
+  stored_other Float h q e = rw (as_is (cut_line t c) (quote_between t c.part.start part.start) (Ok (own (stores Float q))) refl, e) refl
 
   -- one behind a label with a quote, and any other
   pub stored_unchanged : (zeros : ℕ) → quote_between t c.part.start part.start ≡ true → (q : Piece) → rest ≡ span_of q
-      → Own (InData (Stores (Text zeros)) rest) ≡ statement_code (says_in t c part (value (own (stores (Text zeros) q))))
+      → Ok (Own (InData (Stores (Text zeros)) rest)) ≡ statement_code (says_in t c part (Ok (own (stores (Text zeros) q))))
   stored_unchanged _ b q e = rw (b, e) refl
 
   pub stored_string : (zeros : ℕ) → LineCut t c → quote_between t c.part.start part.start ≡ false → c.at ≤ rest.start → rest.start ≤ c.end
       → (q : Piece) → rest ≡ span_of q
-      → Own (InData (String zeros) (record { start = rest.start; len = c.end - rest.start }))
-      ≡ statement_code (says_in t c part (value (own (stores (Text zeros) q))))
+      → Ok (Own (InData (String zeros) (record { start = rest.start; len = c.end - rest.start })))
+      ≡ statement_code (says_in t c part (Ok (own (stores (Text zeros) q))))
   stored_string zeros w b from to q e =
       let at : rest.start ≡ q.at = ap (λ (x : Span). x.start) e in
       rw (b, at)
-      (ap (λ (x : Span). Own (InData (String zeros) x))
+      (ap (string_said zeros)
       (operand_span (cut_line t c) q c.end (cut_long t c w) (omega (arith, from, at)) (omega (arith, to, at))))
 
 -- ---- a quote before what follows the label
@@ -178,16 +184,16 @@ module _ (l p : Piece) (k : is_section_line p.bytes ≡ false) where
   colon_ahead = index_of (byte ":") p.bytes
 
   -- in data: a string directive without a label
-  bare_read : is_bare section.Data p.bytes ≡ true → record { label = none; says = to_line_end false l (unlabelled_of section.Data p) } ≡ parsed section.Data l p
+  bare_read : is_bare section.Data p.bytes ≡ true → record { label = None; says = to_line_end false l (unlabelled_of section.Data p) } ≡ parsed section.Data l p
   bare_read e = by (holds (byte ":") p) refl
     where
       first : ltb quote_ahead colon_ahead ≡ true
       first = and_right (is_string_row (row_in directives p.bytes)) _ e
 
-      x : Some (λ y. string_in l (unlabelled_of section.Data p) ≡ some y)
+      x : Exists (λ y. string_in l (unlabelled_of section.Data p) ≡ Some y)
       x = string_found l p (and_left (is_string_row (row_in directives p.bytes)) _ e)
 
-      by : (b : Bool) → holds (byte ":") p ≡ b → record { label = none; says = to_line_end false l (unlabelled_of section.Data p) } ≡ parsed section.Data l p
+      by : (b : Bool) → holds (byte ":") p ≡ b → record { label = None; says = to_line_end false l (unlabelled_of section.Data p) } ≡ parsed section.Data l p
       by true h = rw x.stands (sym (quoted_string l p k (rw (h, first) refl) x.it x.stands))
       by false h =
           let plain = plain-parsed l p k (rw h refl) in
@@ -213,8 +219,8 @@ module _ (l p : Piece) (k : is_section_line p.bytes ≡ false) where
   plain-read f = by (string_in l (unlabelled_of section.Data (after_label p p))) ∙ sym (plain-parsed l p k f)
     where
       by : (o : Option OwnStatement) → record { label = label_in p; says = ended_by o (unlabelled_of section.Data (after_label p p)) } ≡ string_line section.Data p o
-      by none = refl
-      by (some x) = refl
+      by None = refl
+      by (Some x) = refl
 
   -- so that the parts are the line's, in any section
   pub parts_read : (s : Section) (b : Bool) → b ≡ quote_within p ((rest_by s p).at - p.at) → (rest_by s p).at - p.at ≤ length p.bytes
@@ -226,7 +232,7 @@ module _ (l p : Piece) (k : is_section_line p.bytes ≡ false) where
       Reads : Bool → Type 0
       Reads x =
           b ≡ quote_within p ((cond x p (after_label p p)).at - p.at) → (cond x p (after_label p p)).at - p.at ≤ length p.bytes
-          → record { label = cond x none (label_in p); says = to_line_end b l (unlabelled_of section.Data (cond x p (after_label p p))) } ≡ parsed section.Data l p
+          → record { label = cond x None (label_in p); says = to_line_end b l (unlabelled_of section.Data (cond x p (after_label p p))) } ≡ parsed section.Data l p
 
       labelled-reads : is_bare section.Data p.bytes ≡ false → (q : Bool) → is_quote_first p.bytes ≡ q → Reads false
       labelled-reads f true g e h = rw (e ∙ quoted_before p g h) (quoted_read f g)
@@ -256,14 +262,15 @@ module _ (t : List ℕ) (c : Cut) (w : LineCut t c) where
   pub cut_starts : c.at ≤ c.part.start
   cut_starts = cut_part.from
 
-  says_line : (s : Section) (l : Line) → l ≡ parsed s whole statement → line_code l ≡ line_code (line_of s whole)
-  says_line s l e = ap line_code (e ∙ ap (parsed s whole) (cut_statement t c w))
+  says_line : (s : Section) (l : Line) → l ≡ parsed s whole statement → (r : code_line.Line) → LineStands r l → LineStands r (line_of s whole)
+  says_line s l e r h = subst (LineStands r) (e ∙ ap (parsed s whole) (cut_statement t c w)) h
 
   -- a section line is taken whole
-  pub section_says : (s : Section) → is_section_line statement.bytes ≡ true
-      → record { label = Unnamed; says = statement_code (section_line statement.bytes) } ≡ line_code (line_of s whole)
+  pub section_says : (s : Section) → is_section_line statement.bytes ≡ true → (says : Result code.Statement Refusal)
+      → numbered says ≡ statement_code (section_line statement.bytes) → LineStands (record { label = None; says = says }) (line_of s whole)
   unfolding parsed
-  section_says s e = says_line s (record { label = none; says = section_line statement.bytes }) (rw e refl)
+  section_says s e says h =
+      says_line s (record { label = None; says = section_line statement.bytes }) (rw e refl) _ (record { label = refl; says = h })
 
   -- the label, and what follows it
   module _ (s : Section) (d : Labelled) (parts : Parted t s statement d) where
@@ -280,11 +287,12 @@ module _ (t : List ℕ) (c : Cut) (w : LineCut t c) where
         let long : length (spanned t d.rest) ≡ length (rest_by s statement).bytes = ap (λ (p : Piece). length p.bytes) parts.rest in
         record { from = omega (arith, starts, rest_part.from); to = omega (arith, starts, long, in_line.to, cut_long t c w) }
 
-    pub line_says : is_section_line statement.bytes ≡ false → (says : code.Statement)
-        → says ≡ statement_code (says_in t c d.rest (unlabelled_of s (piece_at t d.rest))) → record { label = d.label; says = says } ≡ line_code (line_of s whole)
+    pub line_says : is_section_line statement.bytes ≡ false → (says : Result code.Statement Refusal)
+        → numbered says ≡ statement_code (says_in t c d.rest (unlabelled_of s (piece_at t d.rest)))
+        → LineStands (record { label = d.label; says = says }) (line_of s whole)
     line_says k says e =
         let n : ℕ = (rest_by s statement).at - statement.at in
         let few : n ≤ length statement.bytes = omega (arith, rest_part.from, rest_part.to) in
         let b : Bool = quote_between t c.part.start d.rest.start in
         let same : b ≡ quote_within statement n = rw (starts, between t c.part n few) refl in
-        rw (parts.label, e, parts.rest) (says_line s _ (parts_read whole statement k s b same few))
+        says_line s _ (parts_read whole statement k s b same few) (record { label = d.label; says = says }) (record { label = parts.label; says = rw parts.rest at e })

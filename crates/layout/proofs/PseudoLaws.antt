@@ -1,17 +1,15 @@
 -- Pseudo-instructions: a line's item by its first word's row in the table of spellings, for any table; an li's words; an item by its kind.
+use Rattle.std.proofs.Common.{Ok, Err}
 use Prim.Native.Nat.{ℕ, suc, ◌+◌, ◌≤◌, ◌<◌}
 use native.Mathlib.Omega.{arith}
 use mathlib.Core.Path.{◌≡◌, refl, sym, ap, ◌∙◌}
 use mathlib.Core.List.{List, [], ◌∷◌, map}
 use mathlib.Core.Bool.{Bool, true, false, cond, not, ◌&&◌, ◌||◌, false≢true, and-false}
-use mathlib.Core.Option.{Option, none, some}
+use Rattle.std.proofs.Common.{Option, None, Some}
 use lib.Dec.{eqb, ltb, leb, leb-suc-suc}
 use lib.ListN.{length, take, drop, get_or}
 use borrow.Author.Tests.{eqb-true, eq-eqb, ne_eqb, eqb-false, not-true, lt-leb, ltb-true}
 use Rattle.numbers.specs.declared.text.Span.{Span}
-use Rattle.numbers.specs.declared.table.Found.{Found}
-use Rattle.numbers.specs.declared.table.Found.TheVariants as found
-use Rattle.numbers.specs.declared.operands.Operand.TheVariants.{At, End}
 use Rattle.numbers.specs.Text.{text, starts_with, same, index_of, before, one_spaced}
 use Rattle.numbers.specs.Code.Spans.{spanned}
 use Rattle.numbers.specs.Code.Tables.{is_word, row_name, all, first, found_row}
@@ -25,7 +23,6 @@ use Rattle.numbers.proofs.Parts.{items_spaced, item-step, item_end, items_all}
 use Rattle.layout.specs.declared.pseudo.Pseudo.{Pseudo}
 use Rattle.layout.specs.declared.pseudo.Pseudo.TheVariants.{Li, La, Push, Pop, Print, PrintStr, Read, ReadByte, Random}
 use Rattle.layout.specs.declared.pseudo.LineKind.TheVariants as kind
-use Rattle.layout.specs.declared.pseudo.TextLine.TheVariants as line
 use Rattle.layout.specs.Pseudos.{Item, ordinary, pseudo, other, Spelling, spellings, item_in}
 use Rattle.layout.specs.Pseudos.{pseudo_operands, is_single, li_words, reserved_words, pseudo_kind, item_kind}
 use Rattle.layout.specs.Code.Kinds.{item_number, spelling_row, begins_as_pseudo, text_line_code}
@@ -108,8 +105,8 @@ no_name (x ∷ xs) s p h =
 
 -- the item of a spelling that is found, where the line goes on after its first word or the spelling may end it
 abbrev item_found : Option Spelling → Bool → Item
-item_found none t = ordinary
-item_found (some x) t = cond (not (t && not x.bare)) x.item ordinary
+item_found None t = ordinary
+item_found (Some x) t = cond (not (t && not x.bare)) x.item ordinary
 
 item-first : (xs : List Spelling) (s : List ℕ) → all is_short xs ≡ true → apart xs ≡ true → item_in xs s ≡ item_found (first (names (before 32 s)) xs) (ends_line s)
 unfolding all apart item_in first
@@ -123,7 +120,7 @@ item-first (x ∷ xs) s p d =
     go : (t : Bool) → same x.name (before 32 s) ≡ t → all is_short xs ≡ true → is_name x.name xs ≡ false
         → item_in xs s ≡ item_found (first (names (before 32 s)) xs) (ends_line s)
         → cond (t && not (ends_line s && not x.bare)) x.item (item_in xs s)
-        ≡ item_found (cond t (some x) (first (names (before 32 s)) xs)) (ends_line s)
+        ≡ item_found (cond t (Some x) (first (names (before 32 s)) xs)) (ends_line s)
     go true e p a ih = rw (no_name xs s p (rw (same_equal x.name (before 32 s) e) at a)) refl
     go false e p a ih = ih
 
@@ -136,33 +133,33 @@ row_named w x short =
 -- ---- an item's kind
 
 pub kind_small : (o : Option Pseudo) → item_kind o ≤ 9
-kind_small none = omega arith
-kind_small (some Li) = omega arith
-kind_small (some La) = omega arith
-kind_small (some Push) = omega arith
-kind_small (some Pop) = omega arith
-kind_small (some Print) = omega arith
-kind_small (some PrintStr) = omega arith
-kind_small (some Read) = omega arith
-kind_small (some ReadByte) = omega arith
-kind_small (some Random) = omega arith
+kind_small None = omega arith
+kind_small (Some Li) = omega arith
+kind_small (Some La) = omega arith
+kind_small (Some Push) = omega arith
+kind_small (Some Pop) = omega arith
+kind_small (Some Print) = omega arith
+kind_small (Some PrintStr) = omega arith
+kind_small (Some Read) = omega arith
+kind_small (Some ReadByte) = omega arith
+kind_small (Some Random) = omega arith
 
 -- it tells the item
 abbrev from_kind : ℕ → Option Pseudo
 from_kind n =
-    get_or (none ∷ some Li ∷ some La ∷ some Push ∷ some Pop ∷ some Print ∷ some PrintStr ∷ some Read ∷ some ReadByte ∷ some Random ∷ []) n none
+    get_or (None ∷ Some Li ∷ Some La ∷ Some Push ∷ Some Pop ∷ Some Print ∷ Some PrintStr ∷ Some Read ∷ Some ReadByte ∷ Some Random ∷ []) n None
 
 kind_back : (o : Option Pseudo) → from_kind (item_kind o) ≡ o
-kind_back none = refl
-kind_back (some Li) = refl
-kind_back (some La) = refl
-kind_back (some Push) = refl
-kind_back (some Pop) = refl
-kind_back (some Print) = refl
-kind_back (some PrintStr) = refl
-kind_back (some Read) = refl
-kind_back (some ReadByte) = refl
-kind_back (some Random) = refl
+kind_back None = refl
+kind_back (Some Li) = refl
+kind_back (Some La) = refl
+kind_back (Some Push) = refl
+kind_back (Some Pop) = refl
+kind_back (Some Print) = refl
+kind_back (Some PrintStr) = refl
+kind_back (Some Read) = refl
+kind_back (Some ReadByte) = refl
+kind_back (Some Random) = refl
 
 pub item_told : (x y : Option Pseudo) → item_kind x ≡ item_kind y → x ≡ y
 item_told x y e = sym (kind_back x) ∙ ap from_kind e ∙ kind_back y
@@ -175,7 +172,7 @@ flag_back false = refl
 
 number_small : (i : Item) → item_number i ≤ 9
 number_small ordinary = omega arith
-number_small (pseudo p) = kind_small (some p)
+number_small (pseudo p) = kind_small (Some p)
 number_small other = omega arith
 
 -- no spelling names an ordinary line
@@ -192,8 +189,8 @@ unfolding spellings all
 spellings-named = refl
 
 -- the row that the code finds: none, one that may not end the line, or one whose columns say what it is
-module _ (q : Span) (xs : List Spelling) (t s : List ℕ) (ok : Sound xs) (r : Found) (is : found_row t r ≡ first (λ x. same (row_name x) (before 32 s)) (map spelling_row xs)) where
-  pub line_plain : r ≡ found.Nothing → line.Item (kind.Instr q) ≡ text_line_code (item_in xs s) q
+module _ (q : Span) (xs : List Spelling) (t s : List ℕ) (ok : Sound xs) (r : Option ℕ) (is : found_row t r ≡ first (λ x. same (row_name x) (before 32 s)) (map spelling_row xs)) where
+  pub line_plain : r ≡ None → Ok (kind.Instr q) ≡ text_line_code (item_in xs s) q
   line_plain e =
       rw (
         item-first xs s ok.0 ok.1,
@@ -201,8 +198,8 @@ module _ (q : Span) (xs : List Spelling) (t s : List ℕ) (ok : Sound xs) (r : F
       )
       refl
 
-  module _ (at : ℕ) (e : r ≡ found.At at) where
-    there : (x : Spelling) × (first (names (before 32 s)) xs ≡ some x) × (spelling_row x ≡ take 16 (drop at t))
+  module _ (at : ℕ) (e : r ≡ Some at) where
+    there : (x : Spelling) × (first (names (before 32 s)) xs ≡ Some x) × (spelling_row x ≡ take 16 (drop at t))
     there = row_found spelling_row (λ x. same (row_name x) (before 32 s)) is_short (names (before 32 s)) (row_named (before 32 s)) xs ok.0 t r is at e
 
     abbrev spelling : Spelling
@@ -225,7 +222,7 @@ module _ (q : Span) (xs : List Spelling) (t s : List ℕ) (ok : Sound xs) (r : F
         let bare : eqb (get_or t (at + 15) 0) 0 ≡ not spelling.bare = ap (λ (k : ℕ). eqb k 0) (column 1 (omega arith)) ∙ flag_back spelling.bare in
         item-first xs s ok.0 ok.1 ∙ ap (λ (o : Option Spelling). item_found o (ends_line s)) there.1 ∙ rw (rw bare at ends) refl
 
-    pub line_ended : ends_line s && eqb (get_or t (at + 15) 0) 0 ≡ true → line.Item (kind.Instr q) ≡ text_line_code (item_in xs s) q
+    pub line_ended : ends_line s && eqb (get_or t (at + 15) 0) 0 ≡ true → Ok (kind.Instr q) ≡ text_line_code (item_in xs s) q
     line_ended ends = rw (rowed true ends) refl
 
     number_is : get_or t (at + 14) 0 ≡ item_number spelling.item
@@ -235,23 +232,23 @@ module _ (q : Span) (xs : List Spelling) (t s : List ℕ) (ok : Sound xs) (r : F
     number_few = rw number_is (number_small spelling.item)
 
     module _ (ends : ends_line s && eqb (get_or t (at + 15) 0) 0 ≡ false) where
-      pub line_other : Named xs → get_or t (at + 14) 0 ≡ 0 → line.Unsupported ≡ text_line_code (item_in xs s) q
+      pub line_other : Named xs → get_or t (at + 14) 0 ≡ 0 → Err 21 ≡ text_line_code (item_in xs s) q
       line_other named z =
           rw (rowed false ends)
           (by spelling.item (first_meets (λ x. is_named x.item) (names (before 32 s)) xs named spelling there.1).0 (sym number_is ∙ z))
         where
-          by : (j : Item) → is_named j ≡ true → item_number j ≡ 0 → line.Unsupported ≡ text_line_code j q
+          by : (j : Item) → is_named j ≡ true → item_number j ≡ 0 → Err 21 ≡ text_line_code j q
           by ordinary n z = absurd (false≢true n)
-          by (pseudo p) n z = let o = item_told (some p) none z in cc
+          by (pseudo p) n z = let o = item_told (Some p) None z in cc
           by other n z = refl
 
       pub line_pseudo : (get_or t (at + 14) 0 ≡ 0 → ⊥) → (p : Pseudo) → pseudo_kind p ≡ get_or t (at + 14) 0
-          → line.Item (kind.Pseudo p q) ≡ text_line_code (item_in xs s) q
+          → Ok (kind.Pseudo p q) ≡ text_line_code (item_in xs s) q
       line_pseudo n p z = rw (rowed false ends) (by spelling.item (λ o. n (number_is ∙ o)) (z ∙ number_is))
         where
-          by : (j : Item) → (item_number j ≡ 0 → ⊥) → pseudo_kind p ≡ item_number j → line.Item (kind.Pseudo p q) ≡ text_line_code j q
+          by : (j : Item) → (item_number j ≡ 0 → ⊥) → pseudo_kind p ≡ item_number j → Ok (kind.Pseudo p q) ≡ text_line_code j q
           by ordinary m z = absurd (m refl)
-          by (pseudo r) m z = let o = item_told (some p) (some r) z in cc
+          by (pseudo r) m z = let o = item_told (Some p) (Some r) z in cc
           by other m z = absurd (m refl)
 
 -- ---- the first letter
@@ -291,21 +288,21 @@ abbrev Few : ℕ → Type 0
 Few n = (1 ≤ n) × (n ≤ 11)
 
 pub words_few : (o : Option Pseudo) (s : List ℕ) → Few (reserved_words o s)
-words_few none s = (omega arith, omega arith)
-words_few (some Li) s = by (pseudo_operands s)
+words_few None s = (omega arith, omega arith)
+words_few (Some Li) s = by (pseudo_operands s)
   where
     by : (ops : List (List ℕ)) → Few (li_words ops)
     by [] = (omega arith, omega arith)
     by (a ∷ []) = (omega arith, omega arith)
     by (a ∷ b ∷ bs) = cond_has Few (is_single (imm_of b)) 1 2 (omega arith, omega arith) (omega arith, omega arith)
-words_few (some La) s = (omega arith, omega arith)
-words_few (some Push) s = (omega arith, omega arith)
-words_few (some Pop) s = (omega arith, omega arith)
-words_few (some Print) s = (omega arith, omega arith)
-words_few (some PrintStr) s = (omega arith, omega arith)
-words_few (some Read) s = (omega arith, omega arith)
-words_few (some ReadByte) s = (omega arith, omega arith)
-words_few (some Random) s = (omega arith, omega arith)
+words_few (Some La) s = (omega arith, omega arith)
+words_few (Some Push) s = (omega arith, omega arith)
+words_few (Some Pop) s = (omega arith, omega arith)
+words_few (Some Print) s = (omega arith, omega arith)
+words_few (Some PrintStr) s = (omega arith, omega arith)
+words_few (Some Read) s = (omega arith, omega arith)
+words_few (Some ReadByte) s = (omega arith, omega arith)
+words_few (Some Random) s = (omega arith, omega arith)
 
 -- ---- what follows the first word
 
@@ -314,14 +311,14 @@ module _ (t : List ℕ) where
   li_operands : li_words (item_operands (one_spaced t)) ≡ li_words (map one_spaced (item_operands_from t 0))
   li_operands = rw (items_spaced t, items_all t) refl
 
-  pub li_none : item_operand_at t 0 ≡ End → li_words (item_operands (one_spaced t)) ≡ 1
+  pub li_none : item_operand_at t 0 ≡ None → li_words (item_operands (one_spaced t)) ≡ 1
   li_none e = rw (li_operands, item_end t 0 e) refl
 
-  module _ (p : Span) (next : ℕ) (e : item_operand_at t 0 ≡ At p next) where
-    pub li_one : item_operand_at t next ≡ End → li_words (item_operands (one_spaced t)) ≡ 1
+  module _ (p : Span) (next : ℕ) (e : item_operand_at t 0 ≡ Some (p, next)) where
+    pub li_one : item_operand_at t next ≡ None → li_words (item_operands (one_spaced t)) ≡ 1
     li_one f = rw (li_operands, item-step t 0 p next e, item_end t next f) refl
 
-    pub li_two : (q : Span) (after : ℕ) → item_operand_at t next ≡ At q after
+    pub li_two : (q : Span) (after : ℕ) → item_operand_at t next ≡ Some (q, after)
         → li_words (item_operands (one_spaced t)) ≡ cond (is_single (spaced_imm_of (spanned t q))) 1 2
     unfolding spaced_imm_of
     li_two q after f = rw (li_operands, item-step t 0 p next e, item-step t next q after f) refl

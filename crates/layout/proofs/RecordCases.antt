@@ -6,7 +6,8 @@ use mathlib.Core.Bool.{true, false}
 use mathlib.Core.List.{List, [], ◌∷◌, ◌++◌, map}
 use lib.IntN.{ℤ, pos, negsuc}
 use lib.ListN.{length, replicate}
-use Rattle.numbers.specs.Results.{Result, value, refused, mapped}
+use Rattle.std.proofs.Common.{Result, Ok, Err}
+use Rattle.numbers.specs.Results.{mapped}
 use Rattle.numbers.specs.Text.{text}
 use Rattle.layout.specs.Refusals.{Refusal}
 use Rattle.layout.specs.declared.records.LabelRecord.{LabelRecord}
@@ -106,14 +107,14 @@ pub record-cases :
     })
     -- labels at one address by their names' bytes
     × (mapped (λ l. map (λ x. x.name.bytes) l.labels) (laid (text "b:\na:\nc:\nB:\naa:"))
-    ≡ value (text "B" ∷ text "a" ∷ text "aa" ∷ text "b" ∷ text "c" ∷ []))
+    ≡ Ok (text "B" ∷ text "a" ∷ text "aa" ∷ text "b" ∷ text "c" ∷ []))
 unfolding computing
 record-cases = (refl, refl, refl, refl)
 
 -- ---- each pseudo's words
 
 -- where s is 0x12346801: the upper part is one more, the lower is negative
-abbrev words_at : List ℕ → Result Refusal (List ℕ)
+abbrev words_at : List ℕ → Result (List ℕ) Refusal
 words_at s = mapped (λ l. l.words) (layout_of (s ++ text "\n.data\n.byte 1\ns: .byte 7") 0x12345800 full)
 
 -- each of the nine, a li of two words, and an ordinary line
@@ -122,35 +123,35 @@ nine =
     text "li a0, 1\nla a0, s\npush a0\npop a0\nprint a0\nprint_str s\nread s\nread_byte s\nrandom a0\nli a0, 5000\nnop\ns:"
 
 pub pseudo-cases :
-    (words_at (text "li s3, -100000") ≡ value (0xFFFE89B7 ∷ 0x96098993 ∷ []))
-    × (words_at (text "la s3, s") ≡ value (0x123479B7 ∷ 0x80198993 ∷ []))
-    × (words_at (text "push s3") ≡ value (0xFFC10113 ∷ 0x01312023 ∷ []))
-    × (words_at (text "pop s3") ≡ value (0x00012983 ∷ 0x00410113 ∷ []))
-    × (words_at (text "print s3") ≡ value (0x3E800893 ∷ 0x00098513 ∷ 0x00000073 ∷ []))
-    × (words_at (text "print_str s") ≡ value (
+    (words_at (text "li s3, -100000") ≡ Ok (0xFFFE89B7 ∷ 0x96098993 ∷ []))
+    × (words_at (text "la s3, s") ≡ Ok (0x123479B7 ∷ 0x80198993 ∷ []))
+    × (words_at (text "push s3") ≡ Ok (0xFFC10113 ∷ 0x01312023 ∷ []))
+    × (words_at (text "pop s3") ≡ Ok (0x00012983 ∷ 0x00410113 ∷ []))
+    × (words_at (text "print s3") ≡ Ok (0x3E800893 ∷ 0x00098513 ∷ 0x00000073 ∷ []))
+    × (words_at (text "print_str s") ≡ Ok (
     0x123475B7 ∷ 0x80158593 ∷ 0x00058613 ∷ 0x00064283 ∷ 0x00028663 ∷ 0x00160613 ∷ 0xFF5FF06F ∷ 0x40B60633 ∷ 0x00100513 ∷ 0x04000893 ∷
     0x00000073 ∷ []
     ))
-    × (words_at (text "read s") ≡ value (0x00000513 ∷ 0x123475B7 ∷ 0x80158593 ∷ 0x10000613 ∷ 0x03F00893 ∷ 0x00000073 ∷ []))
-    × (words_at (text "readByte s") ≡ value (0x3F200893 ∷ 0x12347537 ∷ 0x80150513 ∷ 0x00000073 ∷ []))
-    × (words_at (text "random s3") ≡ value (
+    × (words_at (text "read s") ≡ Ok (0x00000513 ∷ 0x123475B7 ∷ 0x80158593 ∷ 0x10000613 ∷ 0x03F00893 ∷ 0x00000073 ∷ []))
+    × (words_at (text "readByte s") ≡ Ok (0x3F200893 ∷ 0x12347537 ∷ 0x80150513 ∷ 0x00000073 ∷ []))
+    × (words_at (text "random s3") ≡ Ok (
     0xFFC10113 ∷ 0x11600893 ∷ 0x00010513 ∷ 0x00400593 ∷ 0x00000613 ∷ 0x00000073 ∷ 0x00012983 ∷ 0x00410113 ∷ []
     ))
-    × (words_at (text "li s3, n\nn = 70000") ≡ value (0x000119B7 ∷ 0x17098993 ∷ []))
+    × (words_at (text "li s3, n\nn = 70000") ≡ Ok (0x000119B7 ∷ 0x17098993 ∷ []))
     -- ordinary lines: after a tab; a name that may not end the line
-    × (words_at (text "push\ts3") ≡ value (0 ∷ []))
-    × (words_at (text "random_bytes") ≡ value (0 ∷ []))
+    × (words_at (text "push\ts3") ≡ Ok (0 ∷ []))
+    × (words_at (text "random_bytes") ≡ Ok (0 ∷ []))
     -- kinds, and the words reserved by the addresses
-    × (mapped (λ l. map (λ x. x.kind) l.items) (laid nine) ≡ value (1 ∷ 2 ∷ 3 ∷ 4 ∷ 5 ∷ 6 ∷ 7 ∷ 8 ∷ 9 ∷ 1 ∷ 0 ∷ []))
+    × (mapped (λ l. map (λ x. x.kind) l.items) (laid nine) ≡ Ok (1 ∷ 2 ∷ 3 ∷ 4 ∷ 5 ∷ 6 ∷ 7 ∷ 8 ∷ 9 ∷ 1 ∷ 0 ∷ []))
     × (mapped (λ l. map (λ x. x.address) l.items) (laid nine)
-    ≡ value (0 ∷ 4 ∷ 12 ∷ 20 ∷ 28 ∷ 40 ∷ 84 ∷ 108 ∷ 124 ∷ 156 ∷ 164 ∷ []))
-    × (mapped (λ l. map (λ x. x.address) l.labels) (laid nine) ≡ value (168 ∷ []))
+    ≡ Ok (0 ∷ 4 ∷ 12 ∷ 20 ∷ 28 ∷ 40 ∷ 84 ∷ 108 ∷ 124 ∷ 156 ∷ 164 ∷ []))
+    × (mapped (λ l. map (λ x. x.address) l.labels) (laid nine) ≡ Ok (168 ∷ []))
 unfolding computing
 pseudo-cases = (refl, refl, refl, refl, refl, refl, refl, refl, refl, refl, refl, refl, refl, refl, refl)
 
 -- ---- an li by name: document 02, W-202
 
-abbrev by_name : List ℕ → Result Refusal (List ℕ)
+abbrev by_name : List ℕ → Result (List ℕ) Refusal
 by_name v = words_at (text "n = " ++ v ++ text "\nli a0, n")
 
 abbrev pub shrunk : List ℕ
@@ -158,28 +159,28 @@ shrunk = text "n = 5\nli a0, n\nx: ecall"
 
 pub named-load-cases :
     -- "lui with the upper part, 0 included, then addi"
-    (by_name (text "5") ≡ value (0x00000537 ∷ 0x00550513 ∷ []))
-    × (by_name (text "0") ≡ value (0x00000537 ∷ 0x00050513 ∷ []))
-    × (by_name (text "-1") ≡ value (0x00000537 ∷ 0xFFF50513 ∷ []))
-    × (by_name (text "2047") ≡ value (0x00000537 ∷ 0x7FF50513 ∷ []))
-    × (by_name (text "2048") ≡ value (0x00001537 ∷ 0x80050513 ∷ []))
-    × (by_name (text "-2048") ≡ value (0x00000537 ∷ 0x80050513 ∷ []))
-    × (by_name (text "-2049") ≡ value (0xFFFFF537 ∷ 0x7FF50513 ∷ []))
-    × (by_name (text "2147483647") ≡ value (0x80000537 ∷ 0xFFF50513 ∷ []))
-    × (by_name (text "-2147483648") ≡ value (0x80000537 ∷ 0x00050513 ∷ []))
-    × (words_at (text "n = 5\nli x0, n") ≡ value (0x00000037 ∷ 0x00500013 ∷ []))
+    (by_name (text "5") ≡ Ok (0x00000537 ∷ 0x00550513 ∷ []))
+    × (by_name (text "0") ≡ Ok (0x00000537 ∷ 0x00050513 ∷ []))
+    × (by_name (text "-1") ≡ Ok (0x00000537 ∷ 0xFFF50513 ∷ []))
+    × (by_name (text "2047") ≡ Ok (0x00000537 ∷ 0x7FF50513 ∷ []))
+    × (by_name (text "2048") ≡ Ok (0x00001537 ∷ 0x80050513 ∷ []))
+    × (by_name (text "-2048") ≡ Ok (0x00000537 ∷ 0x80050513 ∷ []))
+    × (by_name (text "-2049") ≡ Ok (0xFFFFF537 ∷ 0x7FF50513 ∷ []))
+    × (by_name (text "2147483647") ≡ Ok (0x80000537 ∷ 0xFFF50513 ∷ []))
+    × (by_name (text "-2147483648") ≡ Ok (0x80000537 ∷ 0x00050513 ∷ []))
+    × (words_at (text "n = 5\nli x0, n") ≡ Ok (0x00000037 ∷ 0x00500013 ∷ []))
     -- "An equate beyond 32 signed bits is still 19"
     × (by_name (text "2147483648") ≡ no 19 1)
     × (by_name (text "4294967295") ≡ no 19 1)
     × (by_name (text "-2147483649") ≡ no 19 1)
     -- "a readable number" is what `parse_imm` reads, whatever is named so
-    × (words_at (text "5 = 9\nli a0, 5") ≡ value (0x00500513 ∷ []))
-    × (words_at (text "li a0, 'a'") ≡ value (0x06100513 ∷ []))
-    × (words_at (text "4294967296 = 7\nli a0, 4294967296") ≡ value (0x00000537 ∷ 0x00750513 ∷ []))
+    × (words_at (text "5 = 9\nli a0, 5") ≡ Ok (0x00500513 ∷ []))
+    × (words_at (text "li a0, 'a'") ≡ Ok (0x06100513 ∷ []))
+    × (words_at (text "4294967296 = 7\nli a0, 4294967296") ≡ Ok (0x00000537 ∷ 0x00750513 ∷ []))
     -- "Each item's address then equals the base plus four times its first word's index", and a label's is that of the word behind it
-    × (mapped (λ l. map (λ x. x.address) l.items) (laid shrunk) ≡ value (0 ∷ 8 ∷ []))
-    × (mapped (λ l. map (λ x. x.first) l.items) (laid shrunk) ≡ value (0 ∷ 2 ∷ []))
-    × (mapped (λ l. map (λ x. x.address) l.labels) (laid shrunk) ≡ value (8 ∷ []))
+    × (mapped (λ l. map (λ x. x.address) l.items) (laid shrunk) ≡ Ok (0 ∷ 8 ∷ []))
+    × (mapped (λ l. map (λ x. x.first) l.items) (laid shrunk) ≡ Ok (0 ∷ 2 ∷ []))
+    × (mapped (λ l. map (λ x. x.address) l.labels) (laid shrunk) ≡ Ok (8 ∷ []))
 unfolding computing
 named-load-cases = (refl, refl, refl, refl, refl, refl, refl, refl, refl, refl, refl, refl, refl, refl, refl, refl, refl, refl, refl)
 
@@ -206,10 +207,10 @@ read-back-cases = (refl, refl, refl, refl, refl, refl)
 
 pub data-cases :
     (laid_data (text ".data\n.dword -2\n.string \"a b\"\n.ascii \"c\" ; \"\n.zero 2\n.byte 'd'\n.word -3")
-    ≡ value (0xFE ∷ 0xFF ∷ 0xFF ∷ 0xFF ∷ 0xFF ∷ 0xFF ∷ 0xFF ∷ 0xFF ∷ 97 ∷ 32 ∷ 98 ∷ 0 ∷ 99 ∷ 0 ∷ 0 ∷ 100 ∷ 0xFD ∷ 0xFF ∷ 0xFF ∷ 0xFF ∷ []))
+    ≡ Ok (0xFE ∷ 0xFF ∷ 0xFF ∷ 0xFF ∷ 0xFF ∷ 0xFF ∷ 0xFF ∷ 0xFF ∷ 97 ∷ 32 ∷ 98 ∷ 0 ∷ 99 ∷ 0 ∷ 0 ∷ 100 ∷ 0xFD ∷ 0xFF ∷ 0xFF ∷ 0xFF ∷ []))
     -- labels of data, bss and text, above and below
     × (laid_data (text "nop\nc:\n.section .rodata,x\na: .word b, 7, a, c\n.section sbss\n.skip 9\nb:")
-    ≡ value (0x19 ∷ 0x10 ∷ 0 ∷ 0 ∷ 7 ∷ 0 ∷ 0 ∷ 0 ∷ 0 ∷ 0x10 ∷ 0 ∷ 0 ∷ 4 ∷ 0 ∷ 0 ∷ 0 ∷ []))
+    ≡ Ok (0x19 ∷ 0x10 ∷ 0 ∷ 0 ∷ 7 ∷ 0 ∷ 0 ∷ 0 ∷ 0 ∷ 0x10 ∷ 0 ∷ 0 ∷ 4 ∷ 0 ∷ 0 ∷ 0 ∷ []))
     × (laid_data (text ".data\n.section .note.GNU-stack,x\n.type a, b\n.globl a\n.bytes") ≡ no 6 4)
 unfolding computing
 data-cases = (refl, refl, refl)
@@ -217,29 +218,29 @@ data-cases = (refl, refl, refl)
 -- ---- strings: document 02, W-201
 
 -- what a line stores in the data section
-abbrev stores : List ℕ → Result Refusal (List ℕ)
+abbrev stores : List ℕ → Result (List ℕ) Refusal
 stores l = laid_data (text ".data\n" ++ l)
 
 pub string-line-cases :
-    (stores (text ".ascii \"12:40 #3;ok\\n\"") ≡ value (49 ∷ 50 ∷ 58 ∷ 52 ∷ 48 ∷ 32 ∷ 35 ∷ 51 ∷ 59 ∷ 111 ∷ 107 ∷ 10 ∷ []))
+    (stores (text ".ascii \"12:40 #3;ok\\n\"") ≡ Ok (49 ∷ 50 ∷ 58 ∷ 52 ∷ 48 ∷ 32 ∷ 35 ∷ 51 ∷ 59 ∷ 111 ∷ 107 ∷ 10 ∷ []))
     -- a label whose colon precedes the quote, no blank before that, each blank at both places, a comment behind; the text's end and LF
-    × (stores (text "a:.string\":\";\"") ≡ value (58 ∷ 0 ∷ []))
-    × (stores (text ".asciz" ++ 9 ∷ 11 ∷ 12 ∷ 13 ∷ 32 ∷ text "\"\"" ++ 9 ∷ 11 ∷ 12 ∷ 13 ∷ 32 ∷ text "# c\n.byte 1") ≡ value (0 ∷ 1 ∷ []))
+    × (stores (text "a:.string\":\";\"") ≡ Ok (58 ∷ 0 ∷ []))
+    × (stores (text ".asciz" ++ 9 ∷ 11 ∷ 12 ∷ 13 ∷ 32 ∷ text "\"\"" ++ 9 ∷ 11 ∷ 12 ∷ 13 ∷ 32 ∷ text "# c\n.byte 1") ≡ Ok (0 ∷ 1 ∷ []))
     -- the first colon makes a label where the line has no quote, or none before it
     × (stores (text ".ascii:\"a\"") ≡ no 10 1)
     × (stores (text "x: y: .ascii \":\"") ≡ no 10 1)
     × (stores (text ".ascii a:b") ≡ no 10 1)
-    × (stores (text ".ascii :") ≡ value [])
+    × (stores (text ".ascii :") ≡ Ok [])
     × (stores (text ".section data: .ascii \":\"") ≡ no 3 1)
     -- a label that has the quote: document 01's cut and string
-    × (stores (text "\": .ascii \"a\\n\"") ≡ value (97 ∷ 92 ∷ 110 ∷ []))
-    × (stores (text "\": .ascii \"a\" \"b\"") ≡ value (97 ∷ 34 ∷ 32 ∷ 34 ∷ 98 ∷ []))
+    × (stores (text "\": .ascii \"a\\n\"") ≡ Ok (97 ∷ 92 ∷ 110 ∷ []))
+    × (stores (text "\": .ascii \"a\" \"b\"") ≡ Ok (97 ∷ 34 ∷ 32 ∷ 34 ∷ 98 ∷ []))
     × (stores (text "\": .ascii \"#\"") ≡ no 9 1)
     -- "another escape, an octal above 377, no closing quote, or text beside the string"
     × (stores (text ".ascii \"\\q\"") ≡ no 9 1)
     × (stores (text ".ascii \"\\400\"") ≡ no 9 1)
     × (stores (text ".ascii \"\\378\"") ≡ no 9 1)
-    × (stores (text ".ascii \"\\8\\377\\0019\"") ≡ value (8 ∷ 255 ∷ 1 ∷ 57 ∷ []))
+    × (stores (text ".ascii \"\\8\\377\\0019\"") ≡ Ok (8 ∷ 255 ∷ 1 ∷ 57 ∷ []))
     × (stores (text ".ascii \"a\\\"") ≡ no 9 1)
     × (stores (text ".ascii \"a\" \"b\"") ≡ no 9 1)
     × (stores (text ".ascii \"a\" :") ≡ no 9 1)
@@ -247,7 +248,7 @@ pub string-line-cases :
     × (stores (text ".ascii # \"a\"") ≡ no 9 1)
     -- other sections have none
     × (laid_data (text ".bss\n.ascii \":\"") ≡ no 11 1)
-    × (laid_data (text ".ascii \":\"") ≡ value [])
+    × (laid_data (text ".ascii \":\"") ≡ Ok [])
     -- 1 before all
     × (stores (text ".ascii \"" ++ 128 ∷ text "\"") ≡ no 1 1)
 unfolding computing
@@ -256,18 +257,18 @@ string-line-cases =
 
 -- ---- expressions and rounds
 
-abbrev values : List ℕ → Result Refusal (List ℤ)
+abbrev values : List ℕ → Result (List ℤ) Refusal
 values s = mapped (λ l. map (λ e. e.value) l.equates) (layout_of s 8 full)
 
 pub expression-cases :
     -- a name with `$`; commas as blanks; `.` is base 8 and one word; `0X`; signs on both sides of a joint
-    (values (text "a$_.9 = 5\nb = a$_.9,+,1") ≡ value (pos 5 ∷ pos 6 ∷ []))
-    × (values (text "nop\nx = . + 0XaF") ≡ value (pos 187 ∷ []))
-    × (values (text "x = -+-3 - - + 4 + -10") ≡ value (negsuc 2 ∷ []))
+    (values (text "a$_.9 = 5\nb = a$_.9,+,1") ≡ Ok (pos 5 ∷ pos 6 ∷ []))
+    × (values (text "nop\nx = . + 0XaF") ≡ Ok (pos 187 ∷ []))
+    × (values (text "x = -+-3 - - + 4 + -10") ≡ Ok (negsuc 2 ∷ []))
     -- `0b`, and a label below
-    × (values (text "n = l - m\nm = 0b101\n.data\n.byte 1\nl:") ≡ value (pos 4100 ∷ pos 5 ∷ []))
+    × (values (text "n = l - m\nm = 0b101\n.data\n.byte 1\nl:") ≡ Ok (pos 4100 ∷ pos 5 ∷ []))
     -- the least number; then a term times its sign, a product times its joint, a sum
-    × (values (text "x = -9223372036854775807 - 1") ≡ value (negsuc 9223372036854775807 ∷ []))
+    × (values (text "x = -9223372036854775807 - 1") ≡ Ok (negsuc 9223372036854775807 ∷ []))
     × (values (text "x = -9223372036854775807 - 1\ny = 0 - -x") ≡ no 24 1)
     × (values (text "x = -9223372036854775807 - 1\ny = -5 - x") ≡ no 24 1)
     × (values (text "x = 9223372036854775807 + 1") ≡ no 24 0)
@@ -278,11 +279,11 @@ pub expression-cases :
     × (values (text "x = y + ?") ≡ no 16 0)
     × (values (text "x = y + 5 5") ≡ no 17 0)
     -- bytes 9 and 13 are blanks, 11 is not, but it is white space where a blank parts
-    × (values (text "x = 1" ++ 9 ∷ 13 ∷ text "+ 2") ≡ value (pos 3 ∷ []))
+    × (values (text "x = 1" ++ 9 ∷ 13 ∷ text "+ 2") ≡ Ok (pos 3 ∷ []))
     × (values (text ".equ x, 1" ++ 11 ∷ text "+ 2") ≡ no 16 0)
-    × (values (text ".equ x 1" ++ 11 ∷ text "+ 2") ≡ value (pos 3 ∷ []))
+    × (values (text ".equ x 1" ++ 11 ∷ text "+ 2") ≡ Ok (pos 3 ∷ []))
     -- no equate begins with a dot
-    × (values (text ".x = 5\ny = 6") ≡ value (pos 6 ∷ []))
+    × (values (text ".x = 5\ny = 6") ≡ Ok (pos 6 ∷ []))
     -- a name's second equate before its first; the first pending line
     × (values (text "a = b\na = 1\nb = 2") ≡ no 15 0)
     × (values (text "a = 1\nb = c\nd = b") ≡ no 17 1)
@@ -292,7 +293,7 @@ expression-cases = (refl, refl, refl, refl, refl, refl, refl, refl, refl, refl, 
 -- ---- refusals
 
 -- with so much lent
-abbrev within : Lent → List ℕ → Result Refusal ℕ
+abbrev within : Lent → List ℕ → Result ℕ Refusal
 within k s = mapped (λ l. l.bss_size) (layout_of s 0 k)
 
 pub input-cases :
@@ -327,7 +328,7 @@ pub state-cases :
     (room_of (lent 99999 99999 99999 99999 99999) ≡ record { words = 16384; bytes = 65536; labels = 1024; equates = 256; items = 2048 })
     × (room_of (lent 9 10 47 71 95) ≡ record { words = 9; bytes = 10; labels = 2; equates = 2; items = 3 })
     -- 40, 41, 1
-    × (mapped (λ l. l.data_base) (layout_of (text "") 0xFF000000 full) ≡ value 0xFF001000)
+    × (mapped (λ l. l.data_base) (layout_of (text "") 0xFF000000 full) ≡ Ok 0xFF001000)
     × (layout_of (replicate 65537 128) 0xFF000001 full ≡ no 40 0)
     × (layout_of (replicate 65537 128) 0 full ≡ no 41 0)
     × (layout_of (10 ∷ replicate 65535 128) 0 full ≡ no 1 1)
@@ -335,14 +336,14 @@ pub state-cases :
     × (within (lent 0 0 0 0 0) (text ".data\nx: .asciz \"\\q\"") ≡ no 45 1)
     × (within (lent 0 0 16 0 0) (text ".data\nx: .asciz \"\\q\"") ≡ no 9 1)
     × (within (lent 0 1 16 0 0) (text ".data\nx: .asciz \"\\n\"") ≡ no 42 1)
-    × (within (lent 0 2 16 0 0) (text ".data\nx: .asciz \"\\n\"") ≡ value 0)
+    × (within (lent 0 2 16 0 0) (text ".data\nx: .asciz \"\\n\"") ≡ Ok 0)
     -- each operand's own check, then 42
     × (within (lent 0 2 0 0 0) (text ".data\n.byte 1,2,x") ≡ no 6 1)
     × (within (lent 0 2 0 0 0) (text ".data\n.byte 1,2,3,x") ≡ no 42 1)
     × (within (lent 0 2 0 0 0) (text ".data\n.byte 1\n.align 4") ≡ no 42 2)
     × (within (lent 0 99999 0 0 0) (text ".data\n.space 65537") ≡ no 42 1)
     -- 43
-    × (within full (text ".bss\n.space 1048573\n.align 4") ≡ value 1048576)
+    × (within full (text ".bss\n.space 1048573\n.align 4") ≡ Ok 1048576)
     × (within full (text ".bss\n.space 1048576\n\n.skip 1") ≡ no 43 3)
     -- 21, 48, 44
     × (within (lent 0 0 0 0 0) (text "randomBytes x") ≡ no 21 0)
@@ -357,8 +358,8 @@ pub state-cases :
     × (within (lent 0 0 0 47 0) (text "a=1\nb=?") ≡ no 46 1)
     -- 42, then 47
     × (within (lent 0 3 0 0 0) (text ".data\n.word x") ≡ no 42 1)
-    × (mapped length (add_label_word 3 8 (address_of (text "x")) (replicate 1023 (record { at = 4; name = text "y"; line = 2 }))) ≡ value 1024)
-    × (add_label_word 3 8 (address_of (text "x")) (replicate 1024 (record { at = 4; name = text "y"; line = 2 })) ≡ refused 47)
+    × (mapped length (add_label_word 3 8 (address_of (text "x")) (replicate 1023 (record { at = 4; name = text "y"; line = 2 }))) ≡ Ok 1024)
+    × (add_label_word 3 8 (address_of (text "x")) (replicate 1024 (record { at = 4; name = text "y"; line = 2 })) ≡ Err 47)
 unfolding computing
 state-cases =
     (refl, refl, refl, refl, refl, refl, refl, refl, refl, refl, refl, refl, refl, refl, refl, refl, refl, refl, refl, refl, refl, refl, refl, refl, refl, refl, refl)

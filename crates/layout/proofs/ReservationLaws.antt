@@ -3,7 +3,7 @@ use Prim.Native.Nat.{ℕ, ◌+◌, ◌-◌, ◌≤◌, ◌<◌}
 use native.Mathlib.Omega.{arith}
 use mathlib.Core.Path.{◌≡◌, refl}
 use mathlib.Core.Bool.{Bool, true, false, true≢false}
-use mathlib.Core.Option.{some}
+use Rattle.std.proofs.Common.{Some}
 use lib.Bits.{bit_and, and_le_r}
 use lib.Dec.{T, eqb}
 use lib.IntN.{ℤ, pos, negsuc, nat_abs}
@@ -12,7 +12,7 @@ use mir.Syntax.{w32, w64}
 use mir.Val.{Fits, SFits, to_z, of_z}
 use mir.Facts.{to_z-of_z}
 use borrow.Author.Tests.{eq-eqb, ne_eqb, eqb-true, eqb-false, ltb-true, ltb-false}
-use Rattle.numbers.specs.Results.{value, refused}
+use Rattle.std.proofs.Common.{Ok, Err}
 use Rattle.layout.specs.declared.directives.Reserve.TheVariants.{Space, Align}
 use Rattle.layout.specs.declared.directives.Reservation.TheVariants.{Zeros, Aligns}
 use Rattle.layout.specs.Directives.{aligned, reservation}
@@ -55,30 +55,30 @@ module _ (z : ℤ) (f : SFits w32 z) where
       go (pos n) g e = (tt, record { fits = omega (arith, g.sfits) })
       go (negsuc n) g e = absurd (true≢false e)
 
-  pub space_wrong : lt_z back (pos 0) ≡ true → refused 7 ≡ reservation Space (some z)
+  pub space_wrong : lt_z back (pos 0) ≡ true → Err 7 ≡ reservation Space (Some z)
   space_wrong e = go z (rw (to_z-of_z f) at e)
     where
-      go : (z : ℤ) → lt_z z (pos 0) ≡ true → refused 7 ≡ reservation Space (some z)
+      go : (z : ℤ) → lt_z z (pos 0) ≡ true → Err 7 ≡ reservation Space (Some z)
       go (pos n) e = absurd (omega (arith, ltb-true n 0 e))
       go (negsuc n) e = refl
 
-  pub space_right : lt_z back (pos 0) ≡ false → (value (Zeros (nat_abs back)) ≡ reservation Space (some z)) × Small (Zeros (nat_abs back))
+  pub space_right : lt_z back (pos 0) ≡ false → (Ok (Zeros (nat_abs back)) ≡ reservation Space (Some z)) × Small (Zeros (nat_abs back))
   space_right e = rw (to_z-of_z f) (go z f (rw (to_z-of_z f) at e))
     where
-      go : (z : ℤ) → SFits w32 z → lt_z z (pos 0) ≡ false → (value (Zeros (nat_abs z)) ≡ reservation Space (some z)) × Small (Zeros (nat_abs z))
+      go : (z : ℤ) → SFits w32 z → lt_z z (pos 0) ≡ false → (Ok (Zeros (nat_abs z)) ≡ reservation Space (Some z)) × Small (Zeros (nat_abs z))
       go (pos n) g e = (refl, omega (arith, g.sfits))
       go (negsuc n) g e = absurd (true≢false e)
 
-  pub align_wrong : lt_z back (pos 1) ≡ true → refused 7 ≡ reservation Align (some z)
+  pub align_wrong : lt_z back (pos 1) ≡ true → Err 7 ≡ reservation Align (Some z)
   align_wrong e = go z (rw (to_z-of_z f) at e)
     where
-      go : (z : ℤ) → lt_z z (pos 1) ≡ true → refused 7 ≡ reservation Align (some z)
+      go : (z : ℤ) → lt_z z (pos 1) ≡ true → Err 7 ≡ reservation Align (Some z)
       go (pos n) e = rw (eq-eqb n 0 (omega (arith, ltb-true n 1 e))) refl
       go (negsuc n) e = refl
 
-  pub align_right : lt_z back (pos 1) ≡ false → (value (Aligns (nat_abs back)) ≡ reservation Align (some z)) × Small (Aligns (nat_abs back))
+  pub align_right : lt_z back (pos 1) ≡ false → (Ok (Aligns (nat_abs back)) ≡ reservation Align (Some z)) × Small (Aligns (nat_abs back))
   align_right e = rw (to_z-of_z f) (go z f (rw (to_z-of_z f) at e))
     where
-      go : (z : ℤ) → SFits w32 z → lt_z z (pos 1) ≡ false → (value (Aligns (nat_abs z)) ≡ reservation Align (some z)) × Small (Aligns (nat_abs z))
+      go : (z : ℤ) → SFits w32 z → lt_z z (pos 1) ≡ false → (Ok (Aligns (nat_abs z)) ≡ reservation Align (Some z)) × Small (Aligns (nat_abs z))
       go (pos n) g e = (rw (ne_eqb n 0 (λ q. omega (arith, ltb-false n 1 e))) refl, (omega (arith, ltb-false n 1 e), omega (arith, g.sfits)))
       go (negsuc n) g e = absurd (true≢false e)

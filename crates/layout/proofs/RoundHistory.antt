@@ -5,14 +5,14 @@ use mathlib.Core.Path.{◌≡◌, refl, sym, ◌∙◌, ap, ap₂}
 use mathlib.Core.Logic.{◌⊎◌, inl, inr}
 use mathlib.Core.List.{List, [], ◌∷◌, ◌++◌, map, append_assoc}
 use mathlib.Core.Bool.{Bool, true, false, cond}
-use mathlib.Core.Option.{Option, none, some}
+use Rattle.std.proofs.Common.{Option, None, Some}
 use native.Mathlib.Omega.{arith}
 use native.Mathlib.Decide.{dec_lt}
 use lib.Dec.{ltb}
 use lib.IntN.{ℤ}
 use lib.ListN.{length, length-append}
 use borrow.Author.Tests.{ltb-true, lt-ltb, le-ltb}
-use Rattle.numbers.specs.Results.{value}
+use Rattle.std.proofs.Common.{Ok}
 use Rattle.numbers.proofs.Bools.{none-some}
 use Rattle.layout.specs.Expressions.{Evaluated}
 use Rattle.layout.specs.State.{Equate}
@@ -83,29 +83,29 @@ not_earlier r j q i h g = by (ltb j i) refl
 
 -- one of the equates as the turn of place i in round q sees it, of the equates at the end; it stands at j
 abbrev pub shown_one : ℕ → ℕ → ℕ → Known → Option Found → Known
-shown_one q i j k none = pending_equate k.equate
-shown_one q i j k (some f) = cond (is_earlier f.round j q i) k (pending_equate k.equate)
+shown_one q i j k None = pending_equate k.equate
+shown_one q i j k (Some f) = cond (is_earlier f.round j q i) k (pending_equate k.equate)
 
 -- the first of ks stands at j
 unfoldable pub shown : ℕ → ℕ → ℕ → List Known → List Known
 shown q i j [] = []
 shown q i j (k ∷ ks) = shown_one q i j k k.found ∷ shown q i (suc j) ks
 
-one_there : (q i j : ℕ) (k : Known) (f : Found) → Earlier f.round j q i → shown_one q i j k (some f) ≡ k
+one_there : (q i j : ℕ) (k : Known) (f : Found) → Earlier f.round j q i → shown_one q i j k (Some f) ≡ k
 one_there q i j k f h = ap (λ (c : Bool). cond c k (pending_equate k.equate)) (is_earlier_lem f.round j q i h)
 
-one_not : (q i j : ℕ) (k : Known) (f : Found) → q ≤ f.round → (f.round ≡ q → i ≤ j) → shown_one q i j k (some f) ≡ pending_equate k.equate
+one_not : (q i j : ℕ) (k : Known) (f : Found) → q ≤ f.round → (f.round ≡ q → i ≤ j) → shown_one q i j k (Some f) ≡ pending_equate k.equate
 one_not q i j k f h g = ap (λ (c : Bool). cond c k (pending_equate k.equate)) (not_earlier f.round j q i h g)
 
-one_pending : (q i j : ℕ) (k : Known) → k.found ≡ none → shown_one q i j k k.found ≡ pending_equate k.equate
+one_pending : (q i j : ℕ) (k : Known) → k.found ≡ None → shown_one q i j k k.found ≡ pending_equate k.equate
 one_pending q i j k e = ap (shown_one q i j k) e
 
-pending_is : (k : Known) → k.found ≡ none → pending_equate k.equate ≡ k
+pending_is : (k : Known) → k.found ≡ None → pending_equate k.equate ≡ k
 pending_is k e = ap (λ (o : Option Found). record { equate = k.equate; found = o }) (sym e)
 
 -- no value from a round after R
 abbrev pub Low : ℕ → Known → Type 0
-Low R k = (f : Found) → k.found ≡ some f → f.round ≤ R
+Low R k = (f : Found) → k.found ≡ Some f → f.round ≤ R
 
 shown_append : (q i j : ℕ) (xs ys : List Known) → shown q i j (xs ++ ys) ≡ shown q i j xs ++ shown q i (j + length xs) ys
 unfolding shown
@@ -125,8 +125,8 @@ shown_all q i j (x ∷ xs) g h = ap₂ ◌∷◌ (by x.found refl) (shown_all q 
     near f l (no d) = inr (omega arith, omega arith)
 
     by : (o : Option Found) → x.found ≡ o → shown_one q i j x o ≡ x
-    by none e = pending_is x e
-    by (some f) e = one_there q i j x f (near f (g.0 f e) (dec_lt f.round q))
+    by None e = pending_is x e
+    by (Some f) e = one_there q i j x f (near f (g.0 f e) (dec_lt f.round q))
 
 -- in a round after all that were found, everything is there
 pub shown_whole : (R i j : ℕ) (xs : List Known) → Each (Low R) xs → shown (suc R) i j xs ≡ xs
@@ -135,13 +135,13 @@ shown_whole R i j [] g = refl
 shown_whole R i j (x ∷ xs) g = ap₂ ◌∷◌ (by x.found refl) (shown_whole R i (suc j) xs g.1)
   where
     by : (o : Option Found) → x.found ≡ o → shown_one (suc R) i j x o ≡ x
-    by none e = pending_is x e
-    by (some f) e = one_there (suc R) i j x f (inl (omega (arith, g.0 f e)))
+    by None e = pending_is x e
+    by (Some f) e = one_there (suc R) i j x f (inl (omega (arith, g.0 f e)))
 
 -- ---- a round
 
 abbrev pub given : Known → ℤ → ℕ → Known
-given k z r = record { equate = k.equate; found = some (record { value = z; round = r }) }
+given k z r = record { equate = k.equate; found = Some (record { value = z; round = r }) }
 
 -- at the start every equate is pending
 pub pending_all : (es : List Equate) → pending_count (map pending_equate es) ≡ length es
@@ -172,16 +172,16 @@ triangle_more m (suc n) h = omega (arith, triangle_grows m n (omega arith))
 -- how often: a pending equate has been evaluated in each of R rounds, one that is found in its own and those before
 unfoldable pub spent : ℕ → List Known → ℕ
 spent R [] = 0
-spent R (k ∷ ks) = elim k.found [ none ↦ R + spent R ks | some f ↦ f.round + spent R ks ]
+spent R (k ∷ ks) = elim k.found [ None ↦ R + spent R ks | Some f ↦ f.round + spent R ks ]
 
 module _ (turn : List Known → Equate → Evaluated) where
   -- round r, equate by equate: those done, those to come before their turns and after
   pub data RoundTurns (r : ℕ) : List Known → List Known → List Known → Type 0 where
     no_more : {done : List Known} → RoundTurns r done [] []
-    kept : {done ks ls : List Known} {k : Known} (f : Found) → k.found ≡ some f → RoundTurns r (done ++ k ∷ []) ks ls → RoundTurns r done (k ∷ ks) (k ∷ ls)
-    gained : {done ks ls : List Known} {k : Known} (z : ℤ) → k.found ≡ none → turn (done ++ k ∷ ks) k.equate ≡ value (some z)
+    kept : {done ks ls : List Known} {k : Known} (f : Found) → k.found ≡ Some f → RoundTurns r (done ++ k ∷ []) ks ls → RoundTurns r done (k ∷ ks) (k ∷ ls)
+    gained : {done ks ls : List Known} {k : Known} (z : ℤ) → k.found ≡ None → turn (done ++ k ∷ ks) k.equate ≡ Ok (Some z)
         → RoundTurns r (done ++ given k z r ∷ []) ks ls → RoundTurns r done (k ∷ ks) (given k z r ∷ ls)
-    waiting : {done ks ls : List Known} {k : Known} → k.found ≡ none → turn (done ++ k ∷ ks) k.equate ≡ value none
+    waiting : {done ks ls : List Known} {k : Known} → k.found ≡ None → turn (done ++ k ∷ ks) k.equate ≡ Ok None
         → RoundTurns r (done ++ pending_equate k.equate ∷ []) ks ls → RoundTurns r done (k ∷ ks) (pending_equate k.equate ∷ ls)
 
   -- it leaves the same equates, no more pending, and each that was pending evaluated once more
@@ -245,9 +245,9 @@ module _ (turn : List Known → Equate → Evaluated) where
 
   -- a turn of round r that saw S: before it k, after it l
   data Turn (r : ℕ) (S : List Known) (k l : Known) : Type 0 where
-    stays : (f : Found) → k.found ≡ some f → k ≡ l → Turn r S k l
-    gets : (z : ℤ) → k.found ≡ none → turn S k.equate ≡ value (some z) → given k z r ≡ l → Turn r S k l
-    pends : k.found ≡ none → turn S k.equate ≡ value none → pending_equate k.equate ≡ l → Turn r S k l
+    stays : (f : Found) → k.found ≡ Some f → k ≡ l → Turn r S k l
+    gets : (z : ℤ) → k.found ≡ None → turn S k.equate ≡ Ok (Some z) → given k z r ≡ l → Turn r S k l
+    pends : k.found ≡ None → turn S k.equate ≡ Ok None → pending_equate k.equate ≡ l → Turn r S k l
 
   module _ (R : ℕ) where
     one_more : (done : List Known) (k : Known) → Each (Low (suc R)) done → Low (suc R) k → Each (Low (suc R)) (done ++ k ∷ [])
@@ -281,13 +281,13 @@ module _ (turn : List Known → Equate → Evaluated) where
   pub record ToldFound (R : ℕ) (F : List Known) (i : ℕ) (e : Equate) (f : Found) : Type 0 where
     pub from : 1 ≤ f.round
     pub to : f.round ≤ R
-    pub gave : turn (shown f.round i 0 F) e ≡ value (some f.value)
-    pub waited : (q : ℕ) → 1 ≤ q → q < f.round → turn (shown q i 0 F) e ≡ value none
+    pub gave : turn (shown f.round i 0 F) e ≡ Ok (Some f.value)
+    pub waited : (q : ℕ) → 1 ≤ q → q < f.round → turn (shown q i 0 F) e ≡ Ok None
 
   -- or it waits in every round
   abbrev pub ToldBy : ℕ → List Known → ℕ → Equate → Option Found → Type 0
-  ToldBy R F i e none = (q : ℕ) → 1 ≤ q → q ≤ R → turn (shown q i 0 F) e ≡ value none
-  ToldBy R F i e (some f) = ToldFound R F i e f
+  ToldBy R F i e None = (q : ℕ) → 1 ≤ q → q ≤ R → turn (shown q i 0 F) e ≡ Ok None
+  ToldBy R F i e (Some f) = ToldFound R F i e f
 
   abbrev pub History : ℕ → List Known → Type 0
   History R F = (i : ℕ) (k : Known) → At F i k → ToldBy R F i k.equate k.found
@@ -295,13 +295,13 @@ module _ (turn : List Known → Equate → Evaluated) where
   pub history_low : (R : ℕ) (F : List Known) → History R F → Each (Low R) F
   history_low R F H = each_of (Low R) F (λ i k a f e. (rw e at (H i k a)).to)
 
-  all_none : (es : List Equate) → Each (λ k. k.found ≡ none) (map pending_equate es)
+  all_none : (es : List Equate) → Each (λ k. k.found ≡ None) (map pending_equate es)
   all_none [] = tt
   all_none (e ∷ es) = (refl, all_none es)
 
   -- before the first round
   pub history_start : (es : List Equate) → History 0 (map pending_equate es)
-  history_start es i k a = rw (of_each (λ (k : Known). k.found ≡ none) (all_none es) a) (λ q h g. absurd (omega arith))
+  history_start es i k a = rw (of_each (λ (k : Known). k.found ≡ None) (all_none es) a) (λ q h g. absurd (omega arith))
 
   -- after one round more
   pub history_next : (R : ℕ) (F F' : List Known) → History R F → RoundTurns (suc R) [] F F' → History (suc R) F'
@@ -313,8 +313,8 @@ module _ (turn : List Known → Equate → Evaluated) where
       same : (q : ℕ) → q ≤ R → shown q i 0 F ≡ shown q i 0 F'
       same q h = sym (stable q i 0 h s)
 
-      late : (k : Known) (q : ℕ) → 1 ≤ q → q ≤ suc R → ((q : ℕ) → 1 ≤ q → q ≤ R → turn (shown q i 0 F) k.equate ≡ value none)
-          → turn (shown (suc R) i 0 F') k.equate ≡ value none → Dec (q < suc R) → turn (shown q i 0 F') k.equate ≡ value none
+      late : (k : Known) (q : ℕ) → 1 ≤ q → q ≤ suc R → ((q : ℕ) → 1 ≤ q → q ≤ R → turn (shown q i 0 F) k.equate ≡ Ok None)
+          → turn (shown (suc R) i 0 F') k.equate ≡ Ok None → Dec (q < suc R) → turn (shown q i 0 F') k.equate ≡ Ok None
       late k q h g w t (yes d) = rw (← same q (omega arith)) (w q h (omega arith))
       late k q h g w t (no d) = let e : q ≡ suc R = omega arith in rw e t
 
@@ -366,14 +366,14 @@ start_spent (e ∷ es) = omega (arith, start_spent es)
 
 -- an equate that is found
 abbrev pub IsFound : Known → Type 0
-IsFound k = (f : Found) × (k.found ≡ some f)
+IsFound k = (f : Found) × (k.found ≡ Some f)
 
 pub none_pending : (ks : List Known) → pending_count ks ≡ 0 → Each IsFound ks
 unfolding pending_count
 none_pending [] e = tt
 none_pending (k ∷ ks) e = by k.found refl e (none_pending ks)
   where
-    by : (o : Option Found) → k.found ≡ o → ◌≡◌ {A = ℕ} (elim o [ none ↦ suc (pending_count ks) | some f ↦ pending_count ks ]) 0
+    by : (o : Option Found) → k.found ≡ o → ◌≡◌ {A = ℕ} (elim o [ None ↦ suc (pending_count ks) | Some f ↦ pending_count ks ]) 0
         → (pending_count ks ≡ 0 → Each IsFound ks) → Each IsFound (k ∷ ks)
-    by none q e more = absurd (omega arith)
-    by (some f) q e more = ((f, q), more e)
+    by None q e more = absurd (omega arith)
+    by (Some f) q e more = ((f, q), more e)

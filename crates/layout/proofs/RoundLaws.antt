@@ -5,12 +5,12 @@ use mathlib.Core.Path.{◌≡◌, refl, sym, ◌∙◌, ap, subst}
 use mathlib.Core.Logic.{◌⊎◌, inl, inr}
 use mathlib.Core.List.{List, [], ◌∷◌, ◌++◌}
 use mathlib.Core.Bool.{Bool, true, false, cond, true≢false, false≢true}
-use mathlib.Core.Option.{Option, none, some}
+use Rattle.std.proofs.Common.{Option, None, Some}
 use native.Mathlib.Omega.{arith}
 use native.Mathlib.Decide.{dec_lt}
 use lib.IntN.{ℤ}
 use lib.ListN.{length}
-use Rattle.numbers.specs.Results.{value}
+use Rattle.std.proofs.Common.{Ok}
 use Rattle.numbers.specs.Text.{same}
 use Rattle.numbers.proofs.Bools.{none-some}
 use Rattle.numbers.proofs.Prefixes.{same_equal, same_refl}
@@ -31,21 +31,21 @@ use Rattle.layout.proofs.RoundHistory.{ToldFound, History, IsFound}
 -- ---- a name's value among equates
 
 -- a name that has none: every equate of it is pending
-pub none-all : {t : ℕ} {k : Known} (ks : List Known) (n : List ℕ) → constant ks n ≡ none → At ks t k → known_name k ≡ n → k.found ≡ none
+pub none-all : {t : ℕ} {k : Known} (ks : List Known) (n : List ℕ) → constant ks n ≡ None → At ks t k → known_name k ≡ n → k.found ≡ None
 unfolding constant
 none-all (x ∷ xs) n e here q = by (same (known_name x) n) (ap (λ (m : List ℕ). same m n) q ∙ same_refl n) x.found refl e
   where
     by : (c : Bool) → c ≡ true → (o : Option Found) → x.found ≡ o
-        → ◌≡◌ {A = Option ℤ} (elim c [ true ↦ or_else (found_value o) (constant xs n) | false ↦ constant xs n ]) none → x.found ≡ none
-    by true u none p e = p
-    by true u (some f) p e = absurd (none-some (sym e))
+        → ◌≡◌ {A = Option ℤ} (elim c [ true ↦ or_else (found_value o) (constant xs n) | false ↦ constant xs n ]) None → x.found ≡ None
+    by true u None p e = p
+    by true u (Some f) p e = absurd (none-some (sym e))
     by false u o p e = absurd (false≢true u)
 none-all (x ∷ xs) n e (there a) q = none-all xs n (by (same (known_name x) n) x.found e) a q
   where
-    by : (c : Bool) (o : Option Found) → ◌≡◌ {A = Option ℤ} (elim c [ true ↦ or_else (found_value o) (constant xs n) | false ↦ constant xs n ]) none
-        → constant xs n ≡ none
-    by true none e = e
-    by true (some f) e = absurd (none-some (sym e))
+    by : (c : Bool) (o : Option Found) → ◌≡◌ {A = Option ℤ} (elim c [ true ↦ or_else (found_value o) (constant xs n) | false ↦ constant xs n ]) None
+        → constant xs n ≡ None
+    by true None e = e
+    by true (Some f) e = absurd (none-some (sym e))
     by false o e = e
 none-all {t = t} {k = k} [] n e never q = elim never [ ]
 
@@ -56,10 +56,10 @@ pub record Valued (ks : List Known) (n : List ℕ) (z : ℤ) : Type 0 where
   pub at : At ks place known
   pub is : known_name known ≡ n
   pub found : Found
-  pub has : known.found ≡ some found
+  pub has : known.found ≡ Some found
   pub value : found.value ≡ z
 
-pub some_one : (ks : List Known) (n : List ℕ) (z : ℤ) → constant ks n ≡ some z → Valued ks n z
+pub some_one : (ks : List Known) (n : List ℕ) (z : ℤ) → constant ks n ≡ Some z → Valued ks n z
 unfolding constant
 some_one [] n z e = absurd (none-some e)
 some_one (k ∷ ks) n z e = by (same (known_name k) n) refl k.found refl e (some_one ks n z)
@@ -68,10 +68,10 @@ some_one (k ∷ ks) n z e = by (same (known_name k) n) refl k.found refl e (some
     after v = record { place = suc v.place; known = v.known; at = there v.at; is = v.is; found = v.found; has = v.has; value = v.value }
 
     by : (c : Bool) → same (known_name k) n ≡ c → (o : Option Found) → k.found ≡ o
-        → elim c [ true ↦ or_else (found_value o) (constant ks n) | false ↦ constant ks n ] ≡ some z → (constant ks n ≡ some z → Valued ks n z)
+        → elim c [ true ↦ or_else (found_value o) (constant ks n) | false ↦ constant ks n ] ≡ Some z → (constant ks n ≡ Some z → Valued ks n z)
         → Valued (k ∷ ks) n z
-    by true p none q e more = after (more e)
-    by true p (some f) q e more = record { place = 0; known = k; at = here; is = same_equal (known_name k) n p; found = f; has = q; value = cc }
+    by true p None q e more = after (more e)
+    by true p (Some f) q e more = record { place = 0; known = k; at = here; is = same_equal (known_name k) n p; found = f; has = q; value = cc }
     by false p o q e more = after (more e)
 
 -- ---- what a turn sees, place by place
@@ -97,26 +97,26 @@ shown_at {t = suc t} q i j (k ∷ ks) (there a) = let e : j + suc t ≡ suc j + 
 shown_at {t = t} {k = k} q i j [] never = elim never [ ]
 
 one_name : (q i j : ℕ) (k : Known) (o : Option Found) → known_name (shown_one q i j k o) ≡ known_name k
-one_name q i j k none = refl
-one_name q i j k (some f) = by (is_earlier f.round j q i)
+one_name q i j k None = refl
+one_name q i j k (Some f) = by (is_earlier f.round j q i)
   where
     by : (c : Bool) → known_name (cond c k (pending_equate k.equate)) ≡ known_name k
     by true = refl
     by false = refl
 
-one_found : (q i j : ℕ) (k : Known) (f : Found) → (shown_one q i j k k.found).found ≡ some f → (k.found ≡ some f) × Earlier f.round j q i
+one_found : (q i j : ℕ) (k : Known) (f : Found) → (shown_one q i j k k.found).found ≡ Some f → (k.found ≡ Some f) × Earlier f.round j q i
 one_found q i j k f e = by k.found refl e
   where
-    last : (g : Found) → k.found ≡ some g → (c : Bool) → is_earlier g.round j q i ≡ c → (cond c k (pending_equate k.equate)).found ≡ some f
-        → (k.found ≡ some f) × Earlier f.round j q i
+    last : (g : Found) → k.found ≡ Some g → (c : Bool) → is_earlier g.round j q i ≡ c → (cond c k (pending_equate k.equate)).found ≡ Some f
+        → (k.found ≡ Some f) × Earlier f.round j q i
     last g p true u e = let s : g ≡ f = cc in (e, rw (← s) (earlier_true g.round j q i u))
     last g p false u e = absurd (none-some e)
 
-    by : (o : Option Found) → k.found ≡ o → (shown_one q i j k o).found ≡ some f → (k.found ≡ some f) × Earlier f.round j q i
-    by none p e = absurd (none-some e)
-    by (some g) p e = last g p (is_earlier g.round j q i) refl e
+    by : (o : Option Found) → k.found ≡ o → (shown_one q i j k o).found ≡ Some f → (k.found ≡ Some f) × Earlier f.round j q i
+    by None p e = absurd (none-some e)
+    by (Some g) p e = last g p (is_earlier g.round j q i) refl e
 
-found_one : (q i j : ℕ) (k : Known) (f : Found) → k.found ≡ some f → Earlier f.round j q i → (shown_one q i j k k.found).found ≡ some f
+found_one : (q i j : ℕ) (k : Known) (f : Found) → k.found ≡ Some f → Earlier f.round j q i → (shown_one q i j k k.found).found ≡ Some f
 found_one q i j k f e h =
     ap (λ (o : Option Found). (shown_one q i j k o).found) e
     ∙ ap (λ (c : Bool). (cond c k (pending_equate k.equate)).found) (is_earlier_lem f.round j q i h) ∙ e
@@ -128,11 +128,11 @@ pub record Before (F : List Known) (q i : ℕ) (n : List ℕ) (z : ℤ) : Type 0
   pub at : At F place known
   pub is : known_name known ≡ n
   pub found : Found
-  pub has : known.found ≡ some found
+  pub has : known.found ≡ Some found
   pub value : found.value ≡ z
   pub earlier : Earlier found.round place q i
 
-pub seen_some : (F : List Known) (q i : ℕ) (n : List ℕ) (z : ℤ) → constant (shown q i 0 F) n ≡ some z → Before F q i n z
+pub seen_some : (F : List Known) (q i : ℕ) (n : List ℕ) (z : ℤ) → constant (shown q i 0 F) n ≡ Some z → Before F q i n z
 seen_some F q i n z e =
     let v = some_one (shown q i 0 F) n z e in
     let r = at_shown q i 0 F v.at in
@@ -150,8 +150,8 @@ seen_some F q i n z e =
     }
 
 -- a name that a turn sees without a value: no equate of it was found earlier
-pub seen_none : {t : ℕ} {k : Known} (F : List Known) (q i : ℕ) (n : List ℕ) (f : Found) → constant (shown q i 0 F) n ≡ none → At F t k
-    → known_name k ≡ n → k.found ≡ some f → Earlier f.round t q i → ⊥
+pub seen_none : {t : ℕ} {k : Known} (F : List Known) (q i : ℕ) (n : List ℕ) (f : Found) → constant (shown q i 0 F) n ≡ None → At F t k
+    → known_name k ≡ n → k.found ≡ Some f → Earlier f.round t q i → ⊥
 seen_none {t} {k} F q i n f e a p h b =
     let z : 0 + t ≡ t = omega arith in
     let o = none-all (shown q i 0 F) n e (shown_at q i 0 F a) (one_name q i (0 + t) k k.found ∙ p) in
@@ -163,48 +163,48 @@ module _ (σ : State) where
   -- an equate's name is no label, and has no value yet
   pub record Free (S : List Known) (e : Equate) : Type 0 where
     pub no_label : is_label (name_of e) σ.labels ≡ false
-    pub fresh : constant S (name_of e) ≡ none
+    pub fresh : constant S (name_of e) ≡ None
 
   -- a name has a value: an equate's, or it is a label
   abbrev pub Has : List Known → List ℕ → Type 0
-  Has S n = ((z : ℤ) × (constant S n ≡ some z)) ⊎ (is_label n σ.labels ≡ true)
+  Has S n = ((z : ℤ) × (constant S n ≡ Some z)) ⊎ (is_label n σ.labels ≡ true)
 
   -- a name that an equate uses has none
   pub record Lacks (S : List Known) (e : Equate) : Type 0 where
     pub lacked : List ℕ
     pub used : is_used e lacked ≡ true
     pub no_label : is_label lacked σ.labels ≡ false
-    pub unfound : constant S lacked ≡ none
+    pub unfound : constant S lacked ≡ None
 
   -- what a value and what a wait say
   pub record Evaluator (turn : List Known → Equate → Evaluated) : Type 0 where
-    pub value_free : (S : List Known) (e : Equate) (z : ℤ) → turn S e ≡ value (some z) → Free S e
-    pub value_has : (S : List Known) (e : Equate) (z : ℤ) → turn S e ≡ value (some z) → (n : List ℕ) → is_used e n ≡ true → Has S n
-    pub wait_free : (S : List Known) (e : Equate) → turn S e ≡ value none → Free S e
-    pub wait_lacks : (S : List Known) (e : Equate) → turn S e ≡ value none → Lacks S e
+    pub value_free : (S : List Known) (e : Equate) (z : ℤ) → turn S e ≡ Ok (Some z) → Free S e
+    pub value_has : (S : List Known) (e : Equate) (z : ℤ) → turn S e ≡ Ok (Some z) → (n : List ℕ) → is_used e n ≡ true → Has S n
+    pub wait_free : (S : List Known) (e : Equate) → turn S e ≡ Ok None → Free S e
+    pub wait_lacks : (S : List Known) (e : Equate) → turn S e ≡ Ok None → Lacks S e
 
 -- ---- records of found equates
 
 abbrev pub equate_record_of : Known → Found → EquateAt
 equate_record_of k f = record { name = k.equate.name; line = k.equate.line; value = f.value; round = f.round }
 
-each_found : (P : EquateAt → Type 0) (ks : List Known) → ((j : ℕ) (k : Known) (f : Found) → At ks j k → k.found ≡ some f → P (equate_record_of k f))
+each_found : (P : EquateAt → Type 0) (ks : List Known) → ((j : ℕ) (k : Known) (f : Found) → At ks j k → k.found ≡ Some f → P (equate_record_of k f))
     → Each P (found_equates ks)
 unfolding found_equates
 each_found P [] h = tt
 each_found P (k ∷ ks) h = by k.found refl (each_found P ks (λ j l f a. h (suc j) l f (there a)))
   where
     by : (o : Option Found) → k.found ≡ o → Each P (found_equates ks) → Each P (cons_found k o (found_equates ks))
-    by none e g = g
-    by (some f) e g = (h 0 k f here e, g)
+    by None e g = g
+    by (Some f) e g = (h 0 k f here e, g)
 
-not-recorded : (n : List ℕ) (rs : List EquateAt) → Each (λ r. same r.name.bytes n ≡ false) rs → recorded_value rs n ≡ none
+not-recorded : (n : List ℕ) (rs : List EquateAt) → Each (λ r. same r.name.bytes n ≡ false) rs → recorded_value rs n ≡ None
 unfolding recorded_value
 not-recorded n [] g = refl
 not-recorded n (r ∷ rs) g = by (same r.name.bytes n) g.0 (not-recorded n rs g.1)
   where
-    by : (c : Bool) → c ≡ false → recorded_value rs n ≡ none
-        → ◌≡◌ {A = Option ℤ} (elim c [ true ↦ some r.value | false ↦ recorded_value rs n ]) none
+    by : (c : Bool) → c ≡ false → recorded_value rs n ≡ None
+        → ◌≡◌ {A = Option ℤ} (elim c [ true ↦ Some r.value | false ↦ recorded_value rs n ]) None
     by true e h = absurd (true≢false e)
     by false e h = h
 
@@ -226,7 +226,7 @@ largest_le used more most (r ∷ rs) g = by (used r.name.bytes) refl (largest_le
     by true e h = omega (arith, g.0 e)
     by false e h = omega arith
 
-largest_ge : {j : ℕ} {k : Known} (used : List ℕ → Bool) (more : ℕ) (ks : List Known) (f : Found) → At ks j k → k.found ≡ some f
+largest_ge : {j : ℕ} {k : Known} (used : List ℕ → Bool) (more : ℕ) (ks : List Known) (f : Found) → At ks j k → k.found ≡ Some f
     → used (known_name k) ≡ true → f.round + more ≤ largest used more (found_equates ks)
 unfolding largest found_equates
 largest_ge used more (k ∷ ks) f here e u = rw (e, u) (omega arith)
@@ -234,8 +234,8 @@ largest_ge used more (x ∷ ks) f (there a) e u = by x.found (largest_ge used mo
   where
     by : (o : Option Found) → f.round + more ≤ largest used more (found_equates ks)
         → f.round + more ≤ largest used more (cons_found x o (found_equates ks))
-    by none h = h
-    by (some g) h = omega arith
+    by None h = h
+    by (Some g) h = omega arith
 largest_ge {j = j} {k = k} used more [] f never e u = elim never [ ]
 
 largest_of : (r a b : ℕ) → 1 ≤ r → a ≤ r → b ≤ r → (r ≤ 1) ⊎ (r ≤ a) ⊎ (r ≤ b) → r ≡ max 1 (max a b)
@@ -287,14 +287,14 @@ never_earlier a i b j p q (inr x) = omega (arith, x.1)
 -- ---- what a history tells
 
 module _ (σ : State) (turn : List Known → Equate → Evaluated) (E : Evaluator σ turn) (R : ℕ) (F : List Known) (H : History turn R F) where
-  pub told : {i : ℕ} {k : Known} (f : Found) → At F i k → k.found ≡ some f → ToldFound turn R F i k.equate f
+  pub told : {i : ℕ} {k : Known} (f : Found) → At F i k → k.found ≡ Some f → ToldFound turn R F i k.equate f
   told {i} {k} f a e = rw e at (H i k a)
 
-  pub found_free : {i : ℕ} {k : Known} (f : Found) → At F i k → k.found ≡ some f → Free σ (shown f.round i 0 F) k.equate
+  pub found_free : {i : ℕ} {k : Known} (f : Found) → At F i k → k.found ≡ Some f → Free σ (shown f.round i 0 F) k.equate
   found_free {i} {k} f a e = E.value_free (shown f.round i 0 F) k.equate f.value (told f a e).gave
 
   -- two that are found have two names
-  one_each : {i j : ℕ} {k l : Known} (f g : Found) → At F i k → k.found ≡ some f → At F j l → l.found ≡ some g → known_name k ≡ known_name l → i ≡ j
+  one_each : {i j : ℕ} {k l : Known} (f g : Found) → At F i k → k.found ≡ Some f → At F j l → l.found ≡ Some g → known_name k ≡ known_name l → i ≡ j
   one_each {i} {j} {k} {l} f g a e b d p = by (dec_lt f.round g.round) (dec_lt g.round f.round) (dec_lt i j) (dec_lt j i)
     where
       first : Earlier f.round i g.round j → ⊥
@@ -311,7 +311,7 @@ module _ (σ : State) (turn : List Known → Equate → Evaluated) (E : Evaluato
       by (no h) (no y) (no z) (no w) = omega arith
 
   -- the equates that are found have each their name alone
-  pub same_one : {i j : ℕ} {k l : Known} (f g : Found) → At F i k → k.found ≡ some f → At F j l → l.found ≡ some g → known_name k ≡ known_name l
+  pub same_one : {i j : ℕ} {k l : Known} (f g : Found) → At F i k → k.found ≡ Some f → At F j l → l.found ≡ Some g → known_name k ≡ known_name l
       → (i ≡ j) × (f ≡ g)
   same_one {i} {j} {k} {l} f g a e b d p =
       let q = one_each f g a e b d p in
@@ -319,7 +319,7 @@ module _ (σ : State) (turn : List Known → Equate → Evaluated) (E : Evaluato
       (q, cc)
 
   -- what an equate uses is a label, or was found before it
-  pub used_before : {i : ℕ} {k : Known} (f : Found) → At F i k → k.found ≡ some f → (n : List ℕ) → is_used k.equate n ≡ true
+  pub used_before : {i : ℕ} {k : Known} (f : Found) → At F i k → k.found ≡ Some f → (n : List ℕ) → is_used k.equate n ≡ true
       → ((z : ℤ) × Before F f.round i n z) ⊎ (is_label n σ.labels ≡ true)
   used_before {i} {k} f a e n u = by (E.value_has (shown f.round i 0 F) k.equate f.value (told f a e).gave n u)
     where
@@ -329,7 +329,7 @@ module _ (σ : State) (turn : List Known → Equate → Evaluated) (E : Evaluato
 
   -- ---- one of them, between those above and below
 
-  module _ (done : List Known) (k : Known) (ks : List Known) (are : F ≡ done ++ k ∷ ks) (f : Found) (is : k.found ≡ some f) where
+  module _ (done : List Known) (k : Known) (ks : List Known) (are : F ≡ done ++ k ∷ ks) (f : Found) (is : k.found ≡ Some f) where
     abbrev i : ℕ
     i = length done
 
@@ -343,7 +343,7 @@ module _ (σ : State) (turn : List Known → Equate → Evaluated) (E : Evaluato
     below_at {j} a = let z : suc (length done + j) ≡ length done + suc j = omega arith in rw (are, z) (at_below done (k ∷ ks) (there a))
 
     -- an equate that it uses was found earlier
-    used_earlier : {j : ℕ} {x : Known} (g : Found) → At F j x → x.found ≡ some g → is_used k.equate (known_name x) ≡ true
+    used_earlier : {j : ℕ} {x : Known} (g : Found) → At F j x → x.found ≡ Some g → is_used k.equate (known_name x) ≡ true
         → Earlier g.round j f.round i
     used_earlier {j} {x} g a e u = by (used_before f here_at is (known_name x) u)
       where
@@ -441,7 +441,7 @@ module _ (σ : State) (turn : List Known → Equate → Evaluated) (E : Evaluato
         by (no h) = inl (omega arith)
 
     -- no other has its name
-    pub unshared : recorded_value (found_equates done ++ found_equates ks) (known_name k) ≡ none
+    pub unshared : recorded_value (found_equates done ++ found_equates ks) (known_name k) ≡ None
     unshared =
         not-recorded (known_name k) (found_equates done ++ found_equates ks) (each_append Other (found_equates done) (found_equates ks)
         (each_found Other done (λ j x g a e. other g (above_at a) e (λ q. omega (arith, at_short a))))
@@ -450,7 +450,7 @@ module _ (σ : State) (turn : List Known → Equate → Evaluated) (E : Evaluato
         Other : EquateAt → Type 0
         Other r = same r.name.bytes (known_name k) ≡ false
 
-        other : {j : ℕ} {x : Known} (g : Found) → At F j x → x.found ≡ some g → (j ≡ i → ⊥) → same (known_name x) (known_name k) ≡ false
+        other : {j : ℕ} {x : Known} (g : Found) → At F j x → x.found ≡ Some g → (j ≡ i → ⊥) → same (known_name x) (known_name k) ≡ false
         other {j} {x} g a e n = by (same (known_name x) (known_name k)) refl
           where
             by : (c : Bool) → same (known_name x) (known_name k) ≡ c → same (known_name x) (known_name k) ≡ false

@@ -4,14 +4,15 @@ use native.Mathlib.Numerals.{add-one}
 use native.Mathlib.Omega.{arith}
 use mathlib.Core.Path.{◌≡◌, refl, sym, ap, ap₂, subst, ◌∙◌}
 use mathlib.Core.List.{List, [], ◌∷◌, ◌++◌, map, append_assoc, append-nil}
-use mathlib.Core.Bool.{Bool, true, false, false≢true}
-use mathlib.Core.Option.{Option, none, some}
+use mathlib.Core.Bool.{Bool, true, false}
+use Rattle.std.proofs.Common.{Option, None, Some}
 use lib.Dec.{eqb}
 use lib.IntN.{ℤ, pos}
 use lib.ListN.{length, get_or, set, length-append, length-set, length-map}
 use lib.Seq.{set_at, get_or-set_same, get_or-set_other, get_or-append_seam}
 use borrow.Author.Tests.{eq-eqb, ne_eqb}
-use Rattle.numbers.specs.Results.{Result, value, refused, and_then}
+use Rattle.std.proofs.Common.{Result, Ok, Err}
+use Rattle.numbers.specs.Results.{and_then}
 use Rattle.numbers.specs.Text.{same}
 use Rattle.numbers.specs.Ints.{in64, bits, signed_of}
 use Rattle.numbers.proofs.Bools.{none-some}
@@ -51,12 +52,12 @@ use Rattle.layout.proofs.Fields.{ValueFits, turn_fits, signed_back}
 -- ---- a turn
 
 module _ (base : ℕ) (σ : State) (ks : List Known) (e : Equate) where
-  pub turn-label : is_label e.name.bytes σ.labels ≡ true → refused 14 ≡ turn base σ ks e
+  pub turn-label : is_label e.name.bytes σ.labels ≡ true → Err 14 ≡ turn base σ ks e
   unfolding turn
   turn-label l = rw (turn, l) refl
 
   module _ (l : is_label e.name.bytes σ.labels ≡ false) where
-    pub turn_known : is_some (constant ks e.name.bytes) ≡ true → refused 15 ≡ turn base σ ks e
+    pub turn_known : is_some (constant ks e.name.bytes) ≡ true → Err 15 ≡ turn base σ ks e
     unfolding turn
     turn_known c = rw (turn, l, c) refl
 
@@ -72,16 +73,16 @@ constant_of : (k : Known) (rest : List Known) (n : List ℕ) (c : Bool) → same
 unfolding constant
 constant_of k rest n c e = rw (constant, e) refl
 
-module _ (base : ℕ) (σ : State) (done : List Known) (k : Known) (rest : List Known) (f : Found) (pending : k.found ≡ none)
+module _ (base : ℕ) (σ : State) (done : List Known) (k : Known) (rest : List Known) (f : Found) (pending : k.found ≡ None)
     (free : Free σ (done ++ k ∷ rest) k.equate) where
   abbrev now : Known
-  now = record { equate = k.equate; found = some f }
+  now = record { equate = k.equate; found = Some f }
 
   -- before, a name that is this one's had no value at all
-  was_none : (n : List ℕ) → same (known_name k) n ≡ true → look base σ (done ++ k ∷ rest) n ≡ none
+  was_none : (n : List ℕ) → same (known_name k) n ≡ true → look base σ (done ++ k ∷ rest) n ≡ None
   was_none n e =
       let q = same_equal (known_name k) n e in
-      subst (λ (m : List ℕ). look base σ (done ++ k ∷ rest) m ≡ none) q
+      subst (λ (m : List ℕ). look base σ (done ++ k ∷ rest) m ≡ None) q
       (ap₂ (λ (a : Option ℤ) (b : Option ℕ). or_else a (as_number b)) free.fresh (no_label_address base σ σ.labels (known_name k) free.no_label))
 
   -- another name's value is the same
@@ -94,7 +95,7 @@ module _ (base : ℕ) (σ : State) (done : List Known) (k : Known) (rest : List 
   found_extends : Extends (look base σ (done ++ k ∷ rest)) (look base σ (done ++ now ∷ rest))
   found_extends n z q = by (same (known_name k) n) refl
     where
-      by : (c : Bool) → same (known_name k) n ≡ c → look base σ (done ++ now ∷ rest) n ≡ some z
+      by : (c : Bool) → same (known_name k) n ≡ c → look base σ (done ++ now ∷ rest) n ≡ Some z
       by true e = absurd (none-some (sym (was_none n e) ∙ q))
       by false e = ap (λ (o : Option ℤ). or_else o (as_number (label_address base σ n))) (is_same n e) ∙ q
 
@@ -108,14 +109,14 @@ blocked_later base σ ks ls x e p b =
 
 module _ (base : ℕ) (σ : State) (r : ℕ) (done : List Known) (k : Known) (rest : List Known) (n : ℕ) where
   -- an equate's turn, where what stands before it and what it comes to are known
-  one_found : (f : Found) → k.found ≡ some f → pass_one base σ r done k rest n k.found ≡ value (turns (done ++ k ∷ []) n)
+  one_found : (f : Found) → k.found ≡ Some f → pass_one base σ r done k rest n k.found ≡ Ok (turns (done ++ k ∷ []) n)
   one_found f e = ap (pass_one base σ r done k rest n) e
 
-  pub pass_kept : (f : Found) → k.found ≡ some f → pass base σ r done (k ∷ rest) n ≡ pass base σ r (done ++ k ∷ []) rest n
+  pub pass_kept : (f : Found) → k.found ≡ Some f → pass base σ r done (k ∷ rest) n ≡ pass base σ r (done ++ k ∷ []) rest n
   unfolding pass
-  pass_kept f e = ap (λ (x : Result Refusal Turns). and_then x (λ y. pass base σ r y.known rest y.evaluations)) (one_found f e)
+  pass_kept f e = ap (λ (x : Result Turns Refusal). and_then x (λ y. pass base σ r y.known rest y.evaluations)) (one_found f e)
 
-  module _ (pending : k.found ≡ none) where
+  module _ (pending : k.found ≡ None) where
     one_turn : (v : Evaluated) → turn base σ (done ++ k ∷ rest) k.equate ≡ v
         → pass_one base σ r done k rest n k.found ≡ at_line k.equate.line (after_turn r done k.equate n v)
     one_turn v e = ap (pass_one base σ r done k rest n) pending ∙ ap (λ (w : Evaluated). at_line k.equate.line (after_turn r done k.equate n w)) e
@@ -124,21 +125,21 @@ module _ (base : ℕ) (σ : State) (r : ℕ) (done : List Known) (k : Known) (re
         → pass base σ r done (k ∷ rest) n
         ≡ and_then (at_line k.equate.line (after_turn r done k.equate n v)) (λ y. pass base σ r y.known rest y.evaluations)
     unfolding pass
-    goes_on v e = ap (λ (x : Result Refusal Turns). and_then x (λ y. pass base σ r y.known rest y.evaluations)) (one_turn v e)
+    goes_on v e = ap (λ (x : Result Turns Refusal). and_then x (λ y. pass base σ r y.known rest y.evaluations)) (one_turn v e)
 
-    pub pass_found : (z : ℤ) → turn base σ (done ++ k ∷ rest) k.equate ≡ value (some z)
-        → pass base σ r done (k ∷ rest) n ≡ pass base σ r (done ++ record { equate = k.equate; found = some (record { value = z; round = r }) } ∷ []) rest (suc n)
-    pass_found z e = goes_on (value (some z)) e
+    pub pass_found : (z : ℤ) → turn base σ (done ++ k ∷ rest) k.equate ≡ Ok (Some z)
+        → pass base σ r done (k ∷ rest) n ≡ pass base σ r (done ++ record { equate = k.equate; found = Some (record { value = z; round = r }) } ∷ []) rest (suc n)
+    pass_found z e = goes_on (Ok (Some z)) e
 
-    pub pass_waits : turn base σ (done ++ k ∷ rest) k.equate ≡ value none
+    pub pass_waits : turn base σ (done ++ k ∷ rest) k.equate ≡ Ok None
         → pass base σ r done (k ∷ rest) n ≡ pass base σ r (done ++ k ∷ []) rest (suc n)
     pass_waits e =
-        goes_on (value none) e
+        goes_on (Ok None) e
         ∙ ap (λ (o : Option Found). pass base σ r (done ++ record { equate = k.equate; found = o } ∷ []) rest (suc n)) (sym pending)
 
-    pub pass-refused : (m : ℕ) → turn base σ (done ++ k ∷ rest) k.equate ≡ refused m
-        → pass base σ r done (k ∷ rest) n ≡ refused (record { number = m; line = k.equate.line })
-    pass-refused m e = goes_on (refused m) e
+    pub pass-refused : (m : ℕ) → turn base σ (done ++ k ∷ rest) k.equate ≡ Err m
+        → pass base σ r done (k ∷ rest) n ≡ Err (record { number = m; line = k.equate.line })
+    pass-refused m e = goes_on (Err m) e
 
 -- ---- lists with one equate in the midst
 
@@ -157,14 +158,14 @@ pending_append [] ys = omega arith
 pending_append (x ∷ xs) ys = by x.found (pending_append xs ys)
   where
     by : (o : Option Found) → pending_count (xs ++ ys) ≡ pending_count xs + pending_count ys
-        → elim o [ none ↦ suc (pending_count (xs ++ ys)) | some f ↦ pending_count (xs ++ ys) ]
-        ≡ (elim o [ none ↦ suc (pending_count xs) | some f ↦ pending_count xs ]) + pending_count ys
-    by none e = omega (arith, e)
-    by (some f) e = e
+        → elim o [ None ↦ suc (pending_count (xs ++ ys)) | Some f ↦ pending_count (xs ++ ys) ]
+        ≡ (elim o [ None ↦ suc (pending_count xs) | Some f ↦ pending_count xs ]) + pending_count ys
+    by None e = omega (arith, e)
+    by (Some f) e = e
 
-pending_one : (k : Known) (rest : List Known) → k.found ≡ none → pending_count (k ∷ rest) ≡ suc (pending_count rest)
+pending_one : (k : Known) (rest : List Known) → k.found ≡ None → pending_count (k ∷ rest) ≡ suc (pending_count rest)
 unfolding pending_count
-pending_one k rest e = ap (λ (o : Option Found). elim o [ none ↦ suc (pending_count rest) | some f ↦ pending_count rest ]) e
+pending_one k rest e = ap (λ (o : Option Found). elim o [ None ↦ suc (pending_count rest) | Some f ↦ pending_count rest ]) e
 
 -- ---- the table with one equate more found
 
@@ -181,10 +182,10 @@ length_seam done k l rest = length-append done (l ∷ rest) ∙ sym (length-appe
 
 table_found : (t b b' ix : List ℕ) (count : ℕ) (done : List Known) (k : Known) (rest : List Known) (f : Found)
     → EquateTable t b ix count (done ++ k ∷ rest) → FoundFits f → length b' ≡ length b
-    → b' ≡ put (length done * equate_size) (field_bytes (known_fields (record { equate = k.equate; found = some f }))) b
-    → EquateTable t b' ix count (done ++ record { equate = k.equate; found = some f } ∷ rest)
+    → b' ≡ put (length done * equate_size) (field_bytes (known_fields (record { equate = k.equate; found = Some f }))) b
+    → EquateTable t b' ix count (done ++ record { equate = k.equate; found = Some f } ∷ rest)
 table_found t b b' ix count done k rest f s fits sized e =
-    let now : Known = record { equate = k.equate; found = some f } in
+    let now : Known = record { equate = k.equate; found = Some f } in
     let ks : List Known = done ++ k ∷ rest in
     let within : length done < length ks = omega (arith, length-append done (k ∷ rest)) in
     let fit : KnownFits t k = rw (at_seam done k rest) at (each_at (KnownFits t) ks no_known (length done) s.rows.fits within) in
@@ -226,13 +227,13 @@ module _ (w : List ℕ) (k : ℕ) (p : Partial) where
 
 -- an equate that is pending has waited, and its row says how far its sum has come
 abbrev Waited : ℕ → State → List Known → List ℕ → ℕ → Type 0
-Waited base σ ks w i = (known_at ks i).found ≡ none → Blocked (record { base = base; state = σ; known = ks }) (known_at ks i).equate (partial_at w i)
+Waited base σ ks w i = (known_at ks i).found ≡ None → Blocked (record { base = base; state = σ; known = ks }) (known_at ks i).equate (partial_at w i)
 
 -- after a round that began with so many pending
-abbrev next_round : ℕ → State → (fuel round before : ℕ) → Turns → Result Refusal Turns
+abbrev next_round : ℕ → State → (fuel round before : ℕ) → Turns → Result Turns Refusal
 next_round base σ fuel round before x =
     elim (eqb (pending_count x.known) before) [
-      | true ↦ refused (unresolved x.known)
+      | true ↦ Err (unresolved x.known)
       | false ↦ rounds base σ fuel (suc round) x.known x.evaluations
     ]
 
@@ -301,7 +302,7 @@ module _ (f : Frame) (round before : ℕ) (ks done : List Known) (k : Known) (re
   known_here = ap (λ (l : List Known). known_at l (length done)) m.split ∙ at_seam done k rest
 
   -- it is found already: it has no turn
-  pub walk_kept : (g : Found) → k.found ≡ some g → RoundWalk f round before ks (done ++ k ∷ []) rest e w evaluations pending
+  pub walk_kept : (g : Found) → k.found ≡ Some g → RoundWalk f round before ks (done ++ k ∷ []) rest e w evaluations pending
   walk_kept g q = record {
     split = m.split ∙ sym (seam done k rest);
     table = m.table;
@@ -313,7 +314,7 @@ module _ (f : Frame) (round before : ℕ) (ks done : List Known) (k : Known) (re
     counted = omega (arith, m.counted, more_size);
     fuel = m.fuel;
     enough = m.enough;
-    goes = ap (λ (x : Result Refusal Turns). and_then x (next_round f.base f.state m.fuel round before)) (sym (pass_kept f.base f.state round done k rest evaluations g q)) ∙ m.goes;
+    goes = ap (λ (x : Result Turns Refusal). and_then x (next_round f.base f.state m.fuel round before)) (sym (pass_kept f.base f.state round done k rest evaluations g q)) ∙ m.goes;
     kept = m.kept;
     room = m.room;
     roomy = m.roomy;
@@ -323,12 +324,12 @@ module _ (f : Frame) (round before : ℕ) (ks done : List Known) (k : Known) (re
     later = m.later;
   }
 
-  module _ (p : k.found ≡ none) where
+  module _ (p : k.found ≡ None) where
     turn-here : (v : Evaluated) → v ≡ turn f.base f.state ks k.equate → turn f.base f.state (done ++ k ∷ rest) k.equate ≡ v
     turn-here v q = ap (λ (l : List Known). turn f.base f.state l k.equate) (sym m.split) ∙ sym q
 
     -- it waits
-    pub walk_waits : value none ≡ turn f.base f.state ks k.equate → (s : Partial) → in64 s.sum ≡ true
+    pub walk_waits : Ok None ≡ turn f.base f.state ks k.equate → (s : Partial) → in64 s.sum ≡ true
         → Blocked (record { base = f.base; state = f.state; known = ks }) k.equate s → (w' : List ℕ) → w' ≡ put_partial w (length done) s
         → RoundWalk f round before ks (done ++ k ∷ []) rest e w' (suc evaluations) pending
     walk_waits q s small b w' u = record {
@@ -342,7 +343,7 @@ module _ (f : Frame) (round before : ℕ) (ks done : List Known) (k : Known) (re
       counted = omega (arith, m.counted, more_size);
       fuel = m.fuel;
       enough = m.enough;
-      goes = ap (λ (x : Result Refusal Turns). and_then x (next_round f.base f.state m.fuel round before)) (sym (pass_waits f.base f.state round done k rest evaluations p (turn-here _ q))) ∙ m.goes;
+      goes = ap (λ (x : Result Turns Refusal). and_then x (next_round f.base f.state m.fuel round before)) (sym (pass_waits f.base f.state round done k rest evaluations p (turn-here _ q))) ∙ m.goes;
       kept = m.kept;
       room = ap length u ∙ length_partial w (length done) s ∙ m.room;
       roomy = m.roomy;
@@ -369,16 +370,16 @@ module _ (f : Frame) (round before : ℕ) (ks done : List Known) (k : Known) (re
         waits_at i b = by_equal i (length done) (here_waits i) (λ n. other_waits i n (b n))
 
     -- it is refused: so are the rounds
-    pub walk_refused : (n : ℕ) → refused n ≡ turn f.base f.state ks k.equate
-        → resolve f.base f.state f.state.rest.equates ≡ refused (record { number = n; line = k.equate.line })
+    pub walk_refused : (n : ℕ) → Err n ≡ turn f.base f.state ks k.equate
+        → resolve f.base f.state f.state.rest.equates ≡ Err (record { number = n; line = k.equate.line })
     walk_refused n q =
         sym m.goes
-        ∙ ap (λ (x : Result Refusal Turns). and_then x (next_round f.base f.state m.fuel round before)) (pass-refused f.base f.state round done k rest evaluations p n (turn-here _ q))
+        ∙ ap (λ (x : Result Turns Refusal). and_then x (next_round f.base f.state m.fuel round before)) (pass-refused f.base f.state round done k rest evaluations p n (turn-here _ q))
 
     -- it is found
-    module _ (z : ℤ) (q : value (some z) ≡ turn f.base f.state ks k.equate) (small : in64 z ≡ true) (round-fits : round ≤ equate_limit) where
+    module _ (z : ℤ) (q : Ok (Some z) ≡ turn f.base f.state ks k.equate) (small : in64 z ≡ true) (round-fits : round ≤ equate_limit) where
       abbrev found : Known
-      found = record { equate = k.equate; found = some (record { value = z; round = round }) }
+      found = record { equate = k.equate; found = Some (record { value = z; round = round }) }
 
       abbrev then : List Known
       then = done ++ found ∷ rest
@@ -387,7 +388,7 @@ module _ (f : Frame) (round before : ℕ) (ks done : List Known) (k : Known) (re
       extends =
           subst (λ (l : List Known). Extends (look f.base f.state l) (look f.base f.state then)) (sym m.split)
           (found_extends f.base f.state done k rest (record { value = z; round = round }) p
-          (tried f.base f.state (done ++ k ∷ rest) k.equate (some z) (turn-here _ q)).free)
+          (tried f.base f.state (done ++ k ∷ rest) k.equate (Some z) (turn-here _ q)).free)
 
       pub fewer : pending ≡ suc (pending_count then)
       unfolding pending_count
@@ -409,7 +410,7 @@ module _ (f : Frame) (round before : ℕ) (ks done : List Known) (k : Known) (re
         counted = omega (arith, m.counted, length-append done (found ∷ []));
         fuel = m.fuel;
         enough = m.enough;
-        goes = ap (λ (x : Result Refusal Turns). and_then x (next_round f.base f.state m.fuel round before)) (sym (pass_found f.base f.state round done k rest evaluations p z (turn-here _ q))) ∙ m.goes;
+        goes = ap (λ (x : Result Turns Refusal). and_then x (next_round f.base f.state m.fuel round before)) (sym (pass_found f.base f.state round done k rest evaluations p z (turn-here _ q))) ∙ m.goes;
         kept = l ∙ m.kept;
         room = m.room;
         roomy = m.roomy;
@@ -466,7 +467,7 @@ module _ (f : Frame) (round before : ℕ) (e w : List ℕ) (evaluations pending 
   more : (x : Known) → k + 1 ≡ length (m.done ++ x ∷ [])
   more x = omega (arith, m.place, length-append m.done (x ∷ []))
 
-  pub next_kept : (g : Found) → m.one.found ≡ some g → Walking f round before e w evaluations pending (k + 1)
+  pub next_kept : (g : Found) → m.one.found ≡ Some g → Walking f round before e w evaluations pending (k + 1)
   next_kept g q =
       record {
         all = m.all;
@@ -476,7 +477,7 @@ module _ (f : Frame) (round before : ℕ) (e w : List ℕ) (evaluations pending 
         walk = walk_kept f round before m.all m.done m.one m.rest e w evaluations pending m.walk g q;
       }
 
-  pub next_waits : m.one.found ≡ none → value none ≡ turn f.base f.state m.all m.one.equate → (s : Partial) → in64 s.sum ≡ true
+  pub next_waits : m.one.found ≡ None → Ok None ≡ turn f.base f.state m.all m.one.equate → (s : Partial) → in64 s.sum ≡ true
       → Blocked (record { base = f.base; state = f.state; known = m.all }) m.one.equate s → (w' : List ℕ) → w' ≡ put_partial w k s
       → Walking f round before e w' (evaluations + 1) pending (k + 1)
   next_waits p q s small b w' u =
@@ -490,25 +491,25 @@ module _ (f : Frame) (round before : ℕ) (e w : List ℕ) (evaluations pending 
       }
 
   -- one is pending at least
-  pub some_pending : m.one.found ≡ none → 1 ≤ pending
+  pub some_pending : m.one.found ≡ None → 1 ≤ pending
   some_pending p =
       omega (arith, m.walk.pends, ap pending_count m.walk.split, pending_append m.done (m.one ∷ m.rest), pending_one m.one m.rest p)
 
   -- so there is a round for each equate at the most
-  pub few_rounds : m.one.found ≡ none → round ≤ equate_limit
+  pub few_rounds : m.one.found ≡ None → round ≤ equate_limit
   few_rounds p = omega (arith, some_pending p, m.walk.fell, m.walk.early, m.walk.table.rows.counted, m.walk.table.rows.few)
 
-  pub few_evaluations : m.one.found ≡ none → evaluations < 2 ^ 64 - 1
+  pub few_evaluations : m.one.found ≡ None → evaluations < 2 ^ 64 - 1
   few_evaluations p =
       omega (arith, few_rounds p, m.walk.counted, m.within, m.place, m.walk.table.rows.few)
 
-  pub next_found : m.one.found ≡ none → (z : ℤ) → value (some z) ≡ turn f.base f.state m.all m.one.equate → (e' : List ℕ) → length e' ≡ length e
-      → e' ≡ put (k * equate_size) (field_bytes (known_fields (record { equate = m.one.equate; found = some (record { value = z; round = round }) }))) e
+  pub next_found : m.one.found ≡ None → (z : ℤ) → Ok (Some z) ≡ turn f.base f.state m.all m.one.equate → (e' : List ℕ) → length e' ≡ length e
+      → e' ≡ put (k * equate_size) (field_bytes (known_fields (record { equate = m.one.equate; found = Some (record { value = z; round = round }) }))) e
       → (pending' : ℕ) → suc pending' ≡ pending → Walking f round before e' w (evaluations + 1) pending' (k + 1)
   next_found p z q e' l u pending' less =
       let small : in64 z ≡ true = subst ValueFits (sym q) (turn_fits f.base f.state m.all m.one.equate) in
       let fits : round ≤ equate_limit = few_rounds p in
-      let found : Known = record { equate = m.one.equate; found = some (record { value = z; round = round }) } in
+      let found : Known = record { equate = m.one.equate; found = Some (record { value = z; round = round }) } in
       record {
         all = m.done ++ found ∷ m.rest;
         done = m.done ++ found ∷ [];
@@ -519,8 +520,8 @@ module _ (f : Frame) (round before : ℕ) (e w : List ℕ) (evaluations pending 
             (u ∙ ap (λ (j : ℕ). put (j * equate_size) (field_bytes (known_fields found)) e) m.place) pending' less);
       }
 
-  pub next_refused : m.one.found ≡ none → (n : ℕ) → refused n ≡ turn f.base f.state m.all m.one.equate
-      → resolve f.base f.state f.state.rest.equates ≡ refused (record { number = n; line = m.one.equate.line })
+  pub next_refused : m.one.found ≡ None → (n : ℕ) → Err n ≡ turn f.base f.state m.all m.one.equate
+      → resolve f.base f.state f.state.rest.equates ≡ Err (record { number = n; line = m.one.equate.line })
   next_refused p n q = walk_refused f round before m.all m.done m.one m.rest e w evaluations pending m.walk p n q
 
 -- a round where some are pending, and what comes after it
@@ -531,12 +532,12 @@ rounds_more base σ fuel r ks n h = rw (rounds, ne_eqb (pending_count ks) 0 h) r
 
 module _ (f : Frame) (e w : List ℕ) (evaluations pending round : ℕ) (m : Rounding f e w evaluations pending round) where
   -- nothing is pending: the rounds are through
-  pub round_done : pending ≡ 0 → resolve f.base f.state f.state.rest.equates ≡ value (turns m.known evaluations)
+  pub round_done : pending ≡ 0 → resolve f.base f.state f.state.rest.equates ≡ Ok (turns m.known evaluations)
   unfolding rounds
   round_done z = by m.fuel m.enough m.goes
     where
       by : (fuel : ℕ) → pending < fuel → rounds f.base f.state fuel (suc round) m.known evaluations ≡ resolve f.base f.state f.state.rest.equates
-          → resolve f.base f.state f.state.rest.equates ≡ value (turns m.known evaluations)
+          → resolve f.base f.state f.state.rest.equates ≡ Ok (turns m.known evaluations)
       by zero h g = absurd (omega arith)
       by (suc fuel) h g = sym g ∙ rw (rounds, eq-eqb (pending_count m.known) 0 (sym m.pends ∙ z)) refl
 
@@ -575,10 +576,10 @@ module _ (f : Frame) (e w : List ℕ) (evaluations pending round : ℕ) (m : Rou
 
 next_by : (base : ℕ) (σ : State) (fuel round before : ℕ) (x : Turns) (c : Bool) → eqb (pending_count x.known) before ≡ c
     → next_round base σ fuel round before x
-    ≡ elim c [ true ↦ refused (unresolved x.known) | false ↦ rounds base σ fuel (suc round) x.known x.evaluations ]
+    ≡ elim c [ true ↦ Err (unresolved x.known) | false ↦ rounds base σ fuel (suc round) x.known x.evaluations ]
 next_by base σ fuel round before x c e =
     ap
-    (λ (d : Bool). elim d [ true ↦ refused (unresolved x.known) | false ↦ rounds base σ fuel (suc round) x.known x.evaluations ])
+    (λ (d : Bool). elim d [ true ↦ Err (unresolved x.known) | false ↦ rounds base σ fuel (suc round) x.known x.evaluations ])
     e
 
 -- a round ends: every equate has had its turn
@@ -603,7 +604,7 @@ module _ (f : Frame) (round before : ℕ) (e w : List ℕ) (evaluations pending 
 
   -- it found nothing: 17, at the first pending line
   pub round_stuck : pending ≡ before
-      → resolve f.base f.state f.state.rest.equates ≡ refused (record { number = 17; line = first_pending m.all })
+      → resolve f.base f.state f.state.rest.equates ≡ Err (record { number = 17; line = first_pending m.all })
   round_stuck q = sym after ∙ next_by f.base f.state m.walk.fuel (round + 1) before (turns m.all evaluations) true (eq-eqb (pending_count m.all) before (sym m.walk.pends ∙ q))
 
   -- it found one at least: another round
@@ -686,7 +687,7 @@ module _ (f : Frame) {l n : List ℕ} {c : ℕ} {starts : Starts} {exprs : List 
             ∙ exprs_same (map pending_equate f.state.rest.equates) m.all (equates_all f.state.rest.equates ∙ sym m.walk.equates) (length exprs);
       }
 
-  pub again_here : (p : Partial) → p ≡ partial_at w k → k < f.count → m.one.found ≡ none
+  pub again_here : (p : Partial) → p ≡ partial_at w k → k < f.count → m.one.found ≡ None
       → TurnAgain f.text l n c starts e f.index f.count exprs round k p scope_here
   again_here p q h pending =
       record {
@@ -695,14 +696,14 @@ module _ (f : Frame) {l n : List ℕ} {c : ℕ} {starts : Starts} {exprs : List 
       }
 
   -- what the turn gave, said of the equate whose turn it is
-  pub gave_here : (r : answer.Evaluated) → TurnGives scope_here (equate_in scope_here k) r → TurnGives scope_here m.one.equate r
+  pub gave_here : (r : Result answer.Evaluated ℕ) → TurnGives scope_here (equate_in scope_here k) r → TurnGives scope_here m.one.equate r
   gave_here r g = subst (λ (x : Known). TurnGives scope_here x.equate r) m.is g
 
   -- pending or found, by the record's round
-  pub pending_here : (equate_record_at e k).round ≡ 0 → m.one.found ≡ none
+  pub pending_here : (equate_record_at e k).round ≡ 0 → m.one.found ≡ None
   pending_here z = ap (λ (x : Known). x.found) (sym m.is) ∙ pending_at m.walk.table.rows k m.within z
 
-  pub found_here : ((equate_record_at e k).round ≡ 0 → ⊥) → (g : Found) × (m.one.found ≡ some g)
+  pub found_here : ((equate_record_at e k).round ≡ 0 → ⊥) → (g : Found) × (m.one.found ≡ Some g)
   found_here z =
       let o = found_at m.walk.table.rows k m.within z in
       (o.0, ap (λ (x : Known). x.found) (sym m.is) ∙ o.1)
@@ -712,37 +713,9 @@ module _ (f : Frame) {l n : List ℕ} {c : ℕ} {starts : Starts} {exprs : List 
 
   -- the record that a found equate gets
   pub record_here : (z : ℤ) → equate_fields (record { start = (equate_record_at e k).start; len = (equate_record_at e k).len; line = (equate_record_at e k).line; value = z; round = round })
-      ≡ known_fields (record { equate = m.one.equate; found = some (record { value = z; round = round }) })
+      ≡ known_fields (record { equate = m.one.equate; found = Some (record { value = z; round = round }) })
   record_here z =
       let start : (equate_record_at e k).start ≡ m.one.equate.name.at = name-start m.walk.table.rows k m.within ∙ ap (λ (x : Known). x.equate.name.at) m.is in
       let len : (equate_record_at e k).len ≡ length m.one.equate.name.bytes =
       name_len m.walk.table.rows k m.within ∙ ap (λ (x : Known). length x.equate.name.bytes) m.is in
       rw (start, len, line_here) refl
-
--- ---- after the loops
-
-pub record Over (f : Frame) (e w : List ℕ) (evaluations : ℕ) (stopped : Bool) (number line : ℕ) : Type 0 where
-  pub kept : length e ≡ f.bytes
-  pub room : length w ≡ f.places
-  pub stops : stopped ≡ true → resolve f.base f.state f.state.rest.equates ≡ refused (record { number = number; line = line })
-  pub ends : stopped ≡ false
-      → (known : List Known) × (resolve f.base f.state f.state.rest.equates ≡ value (turns known evaluations)) × EquateTable f.text e f.index f.count known
-
-pub over_done : (f : Frame) (e w : List ℕ) (evaluations pending round : ℕ) (stopped : Bool) (number line : ℕ) → Rounding f e w evaluations pending round
-    → pending ≡ 0 → stopped ≡ false → Over f e w evaluations stopped number line
-over_done f e w evaluations pending round stopped number line m z s =
-    record {
-      kept = m.kept;
-      room = m.room;
-      stops = λ q. absurd (false≢true (sym s ∙ q));
-      ends = λ _. (m.known, round_done f e w evaluations pending round m z, m.table);
-    }
-
-pub over_stopped : (f : Frame) (e w : List ℕ) (evaluations : ℕ) (stopped : Bool) (number line : ℕ) → length e ≡ f.bytes → length w ≡ f.places → stopped ≡ true
-    → resolve f.base f.state f.state.rest.equates ≡ refused (record { number = number; line = line }) → Over f e w evaluations stopped number line
-over_stopped f e w evaluations stopped number line l r s q =
-    record { kept = l; room = r; stops = λ _. q; ends = λ n. absurd (false≢true (sym n ∙ s)) }
-
-pub refusal_at : {number line n i : ℕ} → number ≡ n → line ≡ i
-    → ◌≡◌ {A = Result Refusal Turns} (refused (record { number = n; line = i })) (refused (record { number = number; line = line }))
-refusal_at p q = rw (p, q) refl

@@ -2,21 +2,22 @@
 use Prim.Native.Nat.{ℕ}
 use mathlib.Core.Path.{◌≡◌, refl}
 use mathlib.Core.List.{List}
-use mathlib.Core.Option.{none, some}
+use Rattle.std.proofs.Common.{Option, None, Some}
+use Rattle.std.specs.Option.{MatchOption, IsSomeAnd}
 use lib.IntN.{ℤ, pos}
 use Rattle.layout.specs.Addresses.{label_address}
 use Rattle.layout.specs.Rounds.{constant}
 use Rattle.layout.specs.Code.Names.{Scope, look_in}
 
 module _ (names : Scope) (n : List ℕ) where
-  pub look-equate : (z : ℤ) → some z ≡ constant names.known n → some z ≡ look_in names n
+  pub look-equate : (z : ℤ) → Some z ≡ constant names.known n → Some z ≡ look_in names n
   unfolding look_in
   look-equate z e = rw (← e) refl
 
-  pub look-label : (a : ℕ) → none ≡ constant names.known n → some a ≡ label_address names.base names.state n → some (pos a) ≡ look_in names n
+  -- a label's address is widened
+  pub look-label : None ≡ constant names.known n → (o : Option ℕ) → o ≡ label_address names.base names.state n
+      → (r : Option ℤ) → MatchOption o (r ≡ None) (λ a. IsSomeAnd r (λ z. z ≡ pos a)) → r ≡ look_in names n
   unfolding look_in
-  look-label a e l = rw (← e, ← l) refl
-
-  pub look_none : none ≡ constant names.known n → none ≡ label_address names.base names.state n → none ≡ look_in names n
-  unfolding look_in
-  look_none e l = rw (← e, ← l) refl
+  look-label e None l r w = rw (w, ← e, ← l) refl
+  look-label e (Some a) l None w = absurd w
+  look-label e (Some a) l (Some z) w = rw (w, ← e, ← l) refl

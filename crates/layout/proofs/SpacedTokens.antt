@@ -1,4 +1,6 @@
 -- Tokens of a text in which each run of white space is one space: they are read from the text itself, with all white space as blanks.
+use Rattle.layout.specs.declared.tokens.Token.{Token}
+use Rattle.std.proofs.Common.{Option, Some, None}
 use Prim.Native.Nat.{ℕ, suc, ◌+◌, ◌-◌, ◌≤◌, ◌<◌}
 use mathlib.Core.Path.{◌≡◌, refl, sym, ap, ◌∙◌}
 use mathlib.Core.List.{List, [], ◌∷◌}
@@ -13,8 +15,6 @@ use Rattle.numbers.specs.Numbers.{prefixed}
 use Rattle.numbers.specs.Code.Cursors.{is_separator}
 use Rattle.numbers.proofs.Bools.{or_left}
 use Rattle.layout.specs.declared.tokens.Token as code
-use Rattle.layout.specs.declared.tokens.TokenAt.{TokenAt}
-use Rattle.layout.specs.declared.tokens.TokenAt.TheVariants.{At, End}
 use Rattle.layout.specs.Expressions.{plus, minus, unreadable, is_blank, is_name_byte, is_number_byte, Scanned, number_token, name_token, scan, tokens_in, tokens}
 use Rattle.layout.specs.Expressions.{is_unreadable, any_unreadable}
 use Rattle.layout.specs.Code.Tokens.{token_of, TokenStands, TokenHere, spaced_in, blank_in, tokens_from, TokenLeads, TokenFrom}
@@ -238,22 +238,22 @@ module _ (s : List ℕ) (at k : ℕ) (e : k ≡ at + leading is_separator (drop 
 -- ---- both ways to read a text
 
 -- what stands after the blanks is the first token from the place on
-pub from-here : (one_space : Bool) (s : List ℕ) (at k : ℕ) → k ≡ at + leading (blank_in one_space) (drop at s) → (r : TokenAt) → TokenHere s k r → TokenFrom one_space s at r
+pub from-here : (one_space : Bool) (s : List ℕ) (at k : ℕ) → k ≡ at + leading (blank_in one_space) (drop at s) → (r : Option (Token × ℕ)) → TokenHere s k r → TokenFrom one_space s at r
 unfolding tokens_from
-from-here true s at k e (At t after) w = record {
+from-here true s at k e (Some (t, after)) w = record {
   leads = spaced_leads s at k e t after w;
   further = omega (arith, e, stands_further s k t after w);
   within = w.within;
   named = w.named;
 }
-from-here false s at k e (At t after) w = record {
+from-here false s at k e (Some (t, after)) w = record {
   leads = leads_from s at k e t after w;
   further = omega (arith, e, stands_further s k t after w);
   within = w.within;
   named = w.named;
 }
-from-here true s at k e End h = spaced_none s at k e h
-from-here false s at k e End h = none_from s at k e h
+from-here true s at k e None h = spaced_none s at k e h
+from-here false s at k e None h = none_from s at k e h
 
 -- from the start on there are all
 pub unreadable-start : (one_space : Bool) (s : List ℕ) → any_unreadable (tokens_from one_space s 0) ≡ any_unreadable (tokens (spaced_in one_space s))

@@ -4,13 +4,14 @@ use Prim.Native.Nat.{ℕ, suc, ◌+◌, ◌≤◌, ◌<◌}
 use mathlib.Core.Path.{◌≡◌, refl, sym, ◌∙◌, ap}
 use mathlib.Core.List.{List, [], ◌∷◌, ◌++◌, map}
 use mathlib.Core.Bool.{Bool, true, false, ◌||◌, true≢false}
-use mathlib.Core.Option.{Option, none, some}
+use Rattle.std.proofs.Common.{Option, None, Some}
 use native.Mathlib.Nat.{zero-add}
 use native.Mathlib.Omega.{arith}
 use lib.Dec.{ltb, leb, eqb}
 use lib.IntN.{ℤ, pos, negsuc}
 use lib.ListN.{length}
-use Rattle.numbers.specs.Results.{Result, value, refused, and_then, mapped}
+use Rattle.std.proofs.Common.{Result, Ok, Err}
+use Rattle.numbers.specs.Results.{and_then, mapped}
 use Rattle.numbers.specs.Text.{text, byte, trimmed, starts_with, same}
 use Rattle.numbers.specs.Numbers.{imm_of}
 use Rattle.numbers.specs.Operands.{operands}
@@ -60,10 +61,10 @@ abbrev OfLines : ℕ → Type 0
 OfLines n = is_in line_numbers n ≡ true
 
 -- P of the value, and a refusal of such a number
-abbrev ComesSaid : {A : Type 0} → (A → Type 0) → Result ℕ A → Type 0
+abbrev ComesSaid : {A : Type 0} → (A → Type 0) → Result A ℕ → Type 0
 ComesSaid P x = Comes P OfLines x
 
-abbrev Sound : {A : Type 0} → Result ℕ A → Type 0
+abbrev Sound : {A : Type 0} → Result A ℕ → Type 0
 Sound x = ComesSaid (λ _. Unit) x
 
 -- ---- what a line's operands say
@@ -78,12 +79,12 @@ operand_sound : (w : Width) (s : List ℕ) → Sound (operand_write w s)
 operand_sound w s = by (read_at w s)
   where
     by : (o : Option ℤ) → Sound (number_or_name w o s)
-    by none = unread_sound w s
-    by (some z) = cond_has Sound (range_at w z) _ _ tt refl
+    by None = unread_sound w s
+    by (Some z) = cond_has Sound (range_at w z) _ _ tt refl
 
 string_sound : (zeros : ℕ) (o : Option (List ℕ)) → Sound (string_write zeros o)
-string_sound _ none = refl
-string_sound _ (some bs) = tt
+string_sound _ None = refl
+string_sound _ (Some bs) = tt
 
 store_sound : (x : Store) (s : List ℕ) → Each Sound (store_writes x s)
 store_sound (Numbers w) s = by (operands s)
@@ -95,12 +96,12 @@ store_sound (Text zeros) s = (string_sound zeros (string_of s), tt)
 store_sound Float s = (refl, tt)
 
 reservation_sound : (x : Reserve) (o : Option ℤ) → Sound (reservation x o)
-reservation_sound Space none = refl
-reservation_sound Align none = refl
-reservation_sound Space (some (pos n)) = tt
-reservation_sound Space (some (negsuc n)) = refl
-reservation_sound Align (some (pos n)) = cond_has Sound (eqb n 0) _ _ refl tt
-reservation_sound Align (some (negsuc n)) = refl
+reservation_sound Space None = refl
+reservation_sound Align None = refl
+reservation_sound Space (Some (pos n)) = tt
+reservation_sound Space (Some (negsuc n)) = refl
+reservation_sound Align (Some (pos n)) = cond_has Sound (eqb n 0) _ _ refl tt
+reservation_sound Align (Some (negsuc n)) = refl
 
 -- ---- what a line says
 
@@ -149,8 +150,8 @@ unfolding unlabelled_of
 unlabelled_sound s p = cond_has Sound (is_empty p) _ _ tt (by (row_in directives p.bytes))
   where
     by : (o : Option Row) → Sound (on_row o s p)
-    by none = assignment_sound s p
-    by (some r) = directive_sound s r.directive r.in_data p _
+    by None = assignment_sound s p
+    by (Some r) = directive_sound s r.directive r.in_data p _
 
 line_sound : (s : Section) (l : Piece) → Sound (line_of s l).says
 unfolding parsed labelled section_line
@@ -166,8 +167,8 @@ line_sound s l =
     SaysSound x = Sound x.says
 
     by : (o : Option OwnStatement) → SaysSound (string_or o s p)
-    by none = unlabelled_sound s (after_label p p)
-    by (some x) = tt
+    by None = unlabelled_sound s (after_label p p)
+    by (Some x) = tt
 
 -- ---- labels
 
@@ -206,10 +207,10 @@ recorded_apart x (l ∷ ls) g = by (same l.name.bytes x.name.bytes) refl (record
 
 label_apart : (k : Room) (place : Place) (line : ℕ) (o : Option Piece) (ls : List Label) → Apart ls → ComesSaid Apart (label_step k place line o ls)
 unfolding label_step add_label
-label_apart k place line none ls g = g
-label_apart k place line (some name) ls g =
+label_apart k place line None ls g = g
+label_apart k place line (Some name) ls g =
     let x : Label = record { name = name; place = place; line = line } in
-    test_has (ComesSaid Apart) (is_label name.bytes ls || ltb (length ls) k.labels) (value (recorded x ls)) (refused 45)
+    test_has (ComesSaid Apart) (is_label name.bytes ls || ltb (length ls) k.labels) (Ok (recorded x ls)) (Err 45)
     (recorded_apart x ls g) refl
 
 -- ---- label words
@@ -246,20 +247,20 @@ unfolding grow_data
 grows k w bs = by (grow_data k w bs) (grow_data_fits k w bs) sound
   where
     sound : Sound (grow_data k w bs)
-    sound = test_has Sound (leb (length bs + write_size (length bs) w) k.bytes) (value (bs ++ write_bytes (length bs) w)) (refused 42) tt refl
+    sound = test_has Sound (leb (length bs + write_size (length bs) w) k.bytes) (Ok (bs ++ write_bytes (length bs) w)) (Err 42) tt refl
 
-    by : (x : Result ℕ (List ℕ)) → Comes (Grown k w bs) (λ _. Unit) x → Sound x → ComesSaid (Grown k w bs) x
-    by (value a) g s = g
-    by (refused n) g s = s
+    by : (x : Result (List ℕ) ℕ) → Comes (Grown k w bs) (λ _. Unit) x → Sound x → ComesSaid (Grown k w bs) x
+    by (Ok a) g s = g
+    by (Err n) g s = s
 
-bss_sound : (r : Result ℕ Reservation) (p : ℕ) → Sound r → Sound (bss_line r p)
+bss_sound : (r : Result Reservation ℕ) (p : ℕ) → Sound r → Sound (bss_line r p)
 unfolding bss_line grow_bss
-bss_sound (value x) p s = test_has Sound (leb (place_after p x) bss_limit) _ _ tt refl
-bss_sound (refused n) p s = s
+bss_sound (Ok x) p s = test_has Sound (leb (place_after p x) bss_limit) _ _ tt refl
+bss_sound (Err n) p s = s
 
-gap_sound : (r : Result ℕ Reservation) → Sound r → Sound (mapped gap r)
-gap_sound (value x) s = tt
-gap_sound (refused n) s = s
+gap_sound : (r : Result Reservation ℕ) → Sound r → Sound (mapped gap r)
+gap_sound (Ok x) s = tt
+gap_sound (Err n) s = s
 
 -- at one of the first m lines
 module _ (k : Room) (line m : ℕ) (below : line < m) where
@@ -270,7 +271,7 @@ module _ (k : Room) (line m : ℕ) (below : line < m) where
   add_word_laid p n (gap r) ws h g = (spread_more 0 ws p n (omega arith) g.0, g.1)
   add_word_laid p n (address_of name) ws h g =
       let x : LabelWord = record { at = p; name = name; line = line } in
-      test_has (ComesSaid (WordsLaid m n)) (ltb (length ws) label_word_limit) (value (ws ++ x ∷ [])) (refused 47)
+      test_has (ComesSaid (WordsLaid m n)) (ltb (length ws) label_word_limit) (Ok (ws ++ x ∷ [])) (Err 47)
       (spread_last 0 ws x n g.0 h, each_append (LabelWordBelow m) ws (x ∷ []) g.1 (below, tt)) refl
 
   write_laid : (w : Write) (σ : Stored) → StoredLaid m σ → ComesSaid (StoredLaid m) (data_write k line w σ)
@@ -281,12 +282,12 @@ module _ (k : Room) (line m : ℕ) (below : line < m) where
       mapped_comes (WordsLaid m (length bs)) (StoredLaid m) OfLines _ (add_label_word line p w σ.label_words) (λ us i. i)
       (add_word_laid p (length bs) w σ.label_words (omega (arith, h.0)) g))
 
-  data_laid : (rs : List (Result ℕ Write)) (σ : Stored) → Each Sound rs → StoredLaid m σ → ComesSaid (StoredLaid m) (data_line k line rs σ)
+  data_laid : (rs : List (Result Write ℕ)) (σ : Stored) → Each Sound rs → StoredLaid m σ → ComesSaid (StoredLaid m) (data_line k line rs σ)
   unfolding data_line
   data_laid [] σ s g = g
-  data_laid (value w ∷ rs) σ s g =
+  data_laid (Ok w ∷ rs) σ s g =
       and_then_comes (StoredLaid m) (StoredLaid m) OfLines (data_write k line w σ) (data_line k line rs) (write_laid w σ g) (λ τ. data_laid rs τ s.1)
-  data_laid (refused n ∷ rs) σ s g = s.0
+  data_laid (Err n ∷ rs) σ s g = s.0
 
   abbrev ItemsLaid : Items → Type 0
   ItemsLaid σ = Each (ItemBelow m) σ.list
@@ -301,8 +302,8 @@ module _ (k : Room) (line m : ℕ) (below : line < m) where
   text_laid : (p : Piece) (i : Item) (σ : Items) → ItemsLaid σ → ComesSaid ItemsLaid (text_line k line p i σ)
   unfolding text_line
   text_laid p other σ g = refl
-  text_laid p ordinary σ g = item_laid none p σ g
-  text_laid p (pseudo q) σ g = item_laid (some q) p σ g
+  text_laid p ordinary σ g = item_laid None p σ g
+  text_laid p (pseudo q) σ g = item_laid (Some q) p σ g
 
   abbrev OwnLaid : Own → Type 0
   OwnLaid σ = StoredLaid m σ.stored × ItemsLaid σ.items
@@ -382,7 +383,7 @@ module _ (k : Room) (line : ℕ) where
           let x : Equate = record { name = name; expr = e; place = here σ.own; line = line } in
           mapped_comes (λ es. Rising 0 es (suc line)) (RestLaid (suc line)) OfLines (with_equates σ) (add_equate k x σ.equates)
           (λ es h. rest_laid (with_equates σ es) h more)
-          (test_has (ComesSaid (λ es. Rising 0 es (suc line))) (ltb (length σ.equates) k.equates) (value (σ.equates ++ x ∷ [])) (refused 46)
+          (test_has (ComesSaid (λ es. Rising 0 es (suc line))) (ltb (length σ.equates) k.equates) (Ok (σ.equates ++ x ∷ [])) (Err 46)
           (rising_last 0 σ.equates x (suc line) g.equates (omega arith)) refl)
       by (own s) =
           mapped_comes OwnHere (RestLaid (suc line)) OfLines (with_own σ) (own_line k line s σ.own) (λ x h. rest_laid (with_own σ x) rising h)
@@ -392,7 +393,7 @@ module _ (k : Room) (line : ℕ) where
   unfolding step_parsed
   step_laid p σ g =
       let l = line_of σ.rest.own.section p in
-      let said : Rest → Result ℕ Rest = λ ρ. and_then l.says (λ s. statement_step k line s ρ) in
+      let said : Rest → Result Rest ℕ = λ ρ. and_then l.says (λ s. statement_step k line s ρ) in
       and_then_comes Apart (Laid (suc line)) OfLines (label_step k (here σ.rest.own) line l.label σ.labels)
       (λ ls. mapped (with_rest ls) (said σ.rest))
       (label_apart k (here σ.rest.own) line l.label σ.labels g.labels) (λ ls h.
@@ -402,7 +403,7 @@ module _ (k : Room) (line : ℕ) where
       (λ s u. statement_laid s σ.rest g.rest)))
 
 -- what the stage leaves of m lines, or one of its refusals at one of them
-abbrev pub StageLaid : ℕ → Result Refusal State → Type 0
+abbrev pub StageLaid : ℕ → Result State Refusal → Type 0
 StageLaid m x = Comes (Laid m) (Said line_numbers m) x
 
 lines_laid : (k : Room) (line : ℕ) (ps : List Piece) (σ : State) → Laid line σ → StageLaid (line + length ps) (line_stage k line ps σ)

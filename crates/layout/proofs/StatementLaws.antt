@@ -3,7 +3,7 @@ use Prim.Native.Nat.{ℕ, ◌+◌, ◌≤◌, ◌<◌}
 use mathlib.Core.Path.{◌≡◌, refl, sym, subst, ◌∙◌}
 use mathlib.Core.List.{List, [], ◌∷◌}
 use mathlib.Core.Bool.{Bool, true, false, cond, not, ◌&&◌, ◌||◌, and-true, true≢false}
-use mathlib.Core.Option.{Option, none, some}
+use Rattle.std.proofs.Common.{Option, None, Some}
 use native.Mathlib.Omega.{arith}
 use native.Mathlib.Numerals.{add-one}
 use lib.Dec.{eqb}
@@ -13,7 +13,6 @@ use Rattle.numbers.specs.Text.{text, byte, is_space, starts_with, same, index_of
 use Rattle.numbers.proofs.Prefixes.{same_equal, longer_prefix}
 use Rattle.layout.specs.declared.state.Section.{Section}
 use Rattle.layout.specs.declared.directives.Spelling.{Spelling}
-use Rattle.layout.specs.declared.directives.Spelled.TheVariants as spelled
 use Rattle.layout.specs.Bytes.{count_before}
 use Rattle.layout.specs.Pieces.{Piece, piece, trim_piece, from_byte, is_empty}
 use Rattle.layout.specs.Directives.{Row, directives, row_in}
@@ -57,16 +56,16 @@ not_either true b = refl
 not_either false b = refl
 
 -- what the code finds in the table is the definition's row
-none_coded : (o : Option Row) → row_code o ≡ spelled.Nothing → o ≡ none
-none_coded none e = refl
-none_coded (some r) e = let z : ◌≡◌ {A = ℕ} 0 1 = cc in absurd (omega arith)
+none_coded : (o : Option Row) → row_code o ≡ None → o ≡ None
+none_coded None e = refl
+none_coded (Some r) e = let z : ◌≡◌ {A = ℕ} 0 1 = cc in absurd (omega arith)
 
-row_coded : (o : Option Row) (x : Spelling) (s : Section) (p : Piece) → row_code o ≡ spelled.As x
+row_coded : (o : Option Row) (x : Spelling) (s : Section) (p : Piece) → row_code o ≡ Some x
     → on_row o s p ≡ directive_in s x.directive x.in_data p (from_byte x.len p)
-row_coded none x s p e = let z : ◌≡◌ {A = ℕ} 0 1 = cc in absurd (omega arith)
-row_coded (some r) x s p e =
+row_coded None x s p e = let z : ◌≡◌ {A = ℕ} 0 1 = cc in absurd (omega arith)
+row_coded (Some r) x s p e =
     let is : record { directive = r.directive; len = length r.name; in_data = r.in_data } ≡ x = cc in
-    subst (λ (y : Spelling). on_row (some r) s p ≡ directive_in s y.directive y.in_data p (from_byte y.len p)) is refl
+    subst (λ (y : Spelling). on_row (Some r) s p ≡ directive_in s y.directive y.in_data p (from_byte y.len p)) is refl
 
 -- a piece parted at the first byte of a kind, which stands at n
 module _ (p : Piece) (n : ℕ) where
@@ -94,10 +93,10 @@ module _ (s : Section) (p : Piece) where
     by_row = rw (ne_eqb _ _ some_bytes) refl
 
     -- what the code finds no row for is no directive
-    pub rowless_other : spelled.Nothing ≡ row_code (row_in directives p.bytes) → unlabelled_of s p ≡ assignment_of s p
+    pub rowless_other : None ≡ row_code (row_in directives p.bytes) → unlabelled_of s p ≡ assignment_of s p
     rowless_other e = by_row ∙ rw (none_coded (row_in directives p.bytes) (sym e)) refl
 
-    pub directive_said : (x : Spelling) → spelled.As x ≡ row_code (row_in directives p.bytes)
+    pub directive_said : (x : Spelling) → Some x ≡ row_code (row_in directives p.bytes)
         → unlabelled_of s p ≡ directive_in s x.directive x.in_data p (from_byte x.len p)
     directive_said x e = by_row ∙ row_coded (row_in directives p.bytes) x s p (sym e)
 

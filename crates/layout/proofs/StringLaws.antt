@@ -3,13 +3,13 @@ use Prim.Native.Nat.{ℕ, suc, ◌+◌, min, ◌≤◌, ◌<◌}
 use mathlib.Core.Path.{◌≡◌, refl, sym, ap, ◌∙◌, subst}
 use mathlib.Core.List.{List, [], ◌∷◌, ◌++◌}
 use mathlib.Core.Bool.{Bool, true, false, cond, not, ◌&&◌, ◌||◌, true≢false}
-use mathlib.Core.Option.{Option, none, some}
+use Rattle.std.proofs.Common.{Option, None, Some}
 use native.Mathlib.Omega.{arith}
 use lib.Dec.{ltb, eqb}
 use lib.ListN.{length, take, drop, get_or, length-drop}
 use lib.Seq.{take-take}
 use borrow.Author.Tests.{lt-ltb, le-ltb, ltb-true, ltb-false, eqb-true, eqb-false, ne_eqb}
-use Rattle.numbers.specs.Results.{Result, value, refused}
+use Rattle.std.proofs.Common.{Result, Ok, Err}
 use Rattle.numbers.specs.Text.{text, byte, trimmed, index_of, before, starts_with, same}
 use Rattle.numbers.specs.Code.Spans.{trim_span}
 use Rattle.numbers.specs.Code.Tables.{all}
@@ -28,7 +28,7 @@ use Rattle.layout.specs.Directives.{Row, directives, row_in}
 use Rattle.layout.specs.Statements.{Expr, OwnStatement, item, stores, string, reserves, reserves_bss, Statement, nothing, enters, equate, own}
 use Rattle.layout.specs.Statements.{is_section_line, is_assignment, symbol_after, equate_of, equ_of, other_in, assignment_of, reserves_in, directive_in}
 use Rattle.layout.specs.Statements.{on_row, unlabelled_of, Line, label_in, after_label, labelled, before_quote, string_in, string_or, parsed}
-use Rattle.layout.specs.Code.Steps.{Some}
+use Rattle.layout.specs.Code.Steps.{Exists}
 use Rattle.layout.specs.Code.Rows.{row_code, SpelledWithin}
 use Rattle.layout.specs.Code.Cuts.{is_text, is_string_row, to_line_end}
 use Rattle.layout.proofs.DirectiveLaws.{directives_small, row_within}
@@ -104,14 +104,14 @@ module _ (p : Piece) where
   label_same e = rw (head_same e) (go (holds (byte ":") p) refl)
     where
       named : Piece → Option Piece
-      named x = some (trim_piece (piece_before (byte ":") x))
+      named x = Some (trim_piece (piece_before (byte ":") x))
 
-      go : (b : Bool) → holds (byte ":") p ≡ b → cond b (named (before_quote p)) none ≡ cond b (named p) none
+      go : (b : Bool) → holds (byte ":") p ≡ b → cond b (named (before_quote p)) None ≡ cond b (named p) None
       go true h =
           let first : index_of (byte ":") (take quote p.bytes) ≡ colon = omega (arith, index_take (byte ":") quote p.bytes, label_found e h) in
           let same : take (index_of (byte ":") (take quote p.bytes)) (take quote p.bytes) ≡ take colon p.bytes =
           rw first (take-take colon quote p.bytes (omega (arith, label_found e h))) in
-          ap (λ (s : List ℕ). some (trim_piece (piece p.at s))) same
+          ap (λ (s : List ℕ). Some (trim_piece (piece p.at s))) same
       go false h = refl
 
 -- ---- what a statement stores
@@ -136,7 +136,7 @@ StatementStores s p (enters x) = Unit
 StatementStores s p (equate name e) = Unit
 StatementStores s p (own x) = OwnStores s p x
 
-abbrev pub SaysStores : Section → Piece → Result ℕ Statement → Type 0
+abbrev pub SaysStores : Section → Piece → Result Statement ℕ → Type 0
 SaysStores s p x = Gives (StatementStores s p) x
 
 module _ (s : Section) (p : Piece) where
@@ -172,8 +172,8 @@ unfolding unlabelled_of assignment_of
 unlabelled_stores s p = cond_has (SaysStores s p) (is_empty p) _ _ tt (by (row_in directives p.bytes) (row_within directives p.bytes directives_small))
   where
     by : (o : Option Row) → SpelledWithin (row_code o) (length p.bytes) → SaysStores s p (on_row o s p)
-    by none w = cond_has (SaysStores s p) (is_assignment p) _ _ (equate-stores s p _ _) (other-stores s p)
-    by (some r) w = directive_stores s r.directive r.in_data p (length r.name) w.0
+    by None w = cond_has (SaysStores s p) (is_assignment p) _ _ (equate-stores s p _ _) (other-stores s p)
+    by (Some r) w = directive_stores s r.directive r.in_data p (length r.name) w.0
 
 -- ---- a part of a line
 
@@ -210,23 +210,23 @@ pub operand_starts : (l p : Piece) → Within l p → (s : Section) (rest : Piec
 operand_starts l p w s rest g = rw g.is (omega (arith, w.from), omega (arith, w.to, g.within))
 
 -- elsewhere than in data there is none
-pub string_elsewhere : (l p : Piece) (s : Section) → (s ≡ section.Data → ⊥) → (x : Result ℕ Statement) → SaysStores s p x → string_in l x ≡ none
-string_elsewhere l p s h (value (own (stores x rest))) g = absurd (h g.in_data)
-string_elsewhere l p s h (value (own (item q))) g = refl
-string_elsewhere l p s h (value (own (string _ rest))) g = refl
-string_elsewhere l p s h (value (own (reserves x rest))) g = refl
-string_elsewhere l p s h (value (own (reserves_bss x rest))) g = refl
-string_elsewhere l p s h (value nothing) g = refl
-string_elsewhere l p s h (value (enters x)) g = refl
-string_elsewhere l p s h (value (equate name x)) g = refl
-string_elsewhere l p s h (refused n) g = refl
+pub string_elsewhere : (l p : Piece) (s : Section) → (s ≡ section.Data → ⊥) → (x : Result Statement ℕ) → SaysStores s p x → string_in l x ≡ None
+string_elsewhere l p s h (Ok (own (stores x rest))) g = absurd (h g.in_data)
+string_elsewhere l p s h (Ok (own (item q))) g = refl
+string_elsewhere l p s h (Ok (own (string _ rest))) g = refl
+string_elsewhere l p s h (Ok (own (reserves x rest))) g = refl
+string_elsewhere l p s h (Ok (own (reserves_bss x rest))) g = refl
+string_elsewhere l p s h (Ok nothing) g = refl
+string_elsewhere l p s h (Ok (enters x)) g = refl
+string_elsewhere l p s h (Ok (equate name x)) g = refl
+string_elsewhere l p s h (Err n) g = refl
 
 -- ---- a line that is no section line
 
 -- by the string that its statement stores, if it stores one
 abbrev pub string_line : Section → Piece → Option OwnStatement → Line
-string_line s p none = labelled s p
-string_line s p (some x) = record { label = label_in p; says = value (own x) }
+string_line s p None = labelled s p
+string_line s p (Some x) = record { label = label_in p; says = Ok (own x) }
 
 module _ (l p : Piece) (k : is_section_line p.bytes ≡ false) where
   -- in another section than data it has none
@@ -242,16 +242,16 @@ module _ (l p : Piece) (k : is_section_line p.bytes ≡ false) where
   plain-parsed e = rw (k, after_same p e) (by (string_in l (unlabelled_of section.Data (after_label p p))))
     where
       by : (o : Option OwnStatement) → string_or o section.Data p ≡ string_line section.Data p o
-      by none = refl
-      by (some x) = rw (label_same p e) refl
+      by None = refl
+      by (Some x) = rw (label_same p e) refl
 
   -- where one does: a string directive without a label, or document 01's line
   module _ (e : is_quote_first p.bytes ≡ true) where
-    pub quoted_string : (x : OwnStatement) → string_in l (unlabelled_of section.Data p) ≡ some x → parsed section.Data l p ≡ record { label = none; says = value (own x) }
+    pub quoted_string : (x : OwnStatement) → string_in l (unlabelled_of section.Data p) ≡ Some x → parsed section.Data l p ≡ record { label = None; says = Ok (own x) }
     unfolding parsed
     quoted_string x i = rw (k, quote_bare p e, i, quote_bare p e) refl
 
-    pub quoted_other : string_in l (unlabelled_of section.Data p) ≡ none → parsed section.Data l p ≡ labelled section.Data p
+    pub quoted_other : string_in l (unlabelled_of section.Data p) ≡ None → parsed section.Data l p ≡ labelled section.Data p
     unfolding parsed
     quoted_other i = rw (k, quote_bare p e, i) refl
 
@@ -276,7 +276,7 @@ no_row s h [] g = refl
 no_row s h (r ∷ rs) g = by (starts_with r.name s) refl (is_text r.directive) refl (and_left (named_so r) (all named_so rs) g) (no_row s h rs (and_right (named_so r) (all named_so rs) g))
   where
     by : (b : Bool) → starts_with r.name s ≡ b → (t : Bool) → is_text r.directive ≡ t → not t || is_string_name r.name ≡ true → is_string_row (row_in rs s) ≡ false
-        → is_string_row (cond b (some r) (row_in rs s)) ≡ false
+        → is_string_row (cond b (Some r) (row_in rs s)) ≡ false
     by true e true f n ih = absurd (true≢false (sym e ∙ h r.name n))
     by true e false f n ih = f
     by false e t f n ih = ih
@@ -306,14 +306,14 @@ begins_row s = by (starts_with (text ".ascii") s) (starts_with (text ".asciz") s
 -- ---- what stores no string
 
 abbrev is_string : Option OwnStatement → Bool
-is_string none = false
-is_string (some x) = true
+is_string None = false
+is_string (Some x) = true
 
 module _ (l : Piece) where
-  abbrev Stringless : Result ℕ Statement → Type 0
-  Stringless x = string_in l x ≡ none
+  abbrev Stringless : Result Statement ℕ → Type 0
+  Stringless x = string_in l x ≡ None
 
-  either : (c : Bool) (x y : Result ℕ Statement) → Stringless x → Stringless y → Stringless (cond c x y)
+  either : (c : Bool) (x y : Result Statement ℕ) → Stringless x → Stringless y → Stringless (cond c x y)
   either = cond_has Stringless
 
   pub symbol_stringless : (rest : List ℕ) → Stringless (symbol_after rest)
@@ -343,14 +343,14 @@ module _ (l : Piece) where
   reserves_stringless section.Bss b x p rest = refl
 
   -- it says the same in its line
-  pub as_is : (b : Bool) (x : Result ℕ Statement) → Stringless x → to_line_end b l x ≡ x
+  pub as_is : (b : Bool) (x : Result Statement ℕ) → Stringless x → to_line_end b l x ≡ x
   as_is true x e = refl
   as_is false x e = rw e refl
 
   -- a statement of the data section, by its directive's row
   by_row : (o : Option Row) (p : Piece) → (c : Bool) → is_string_row o ≡ c → is_string (string_in l (on_row o section.Data p)) ≡ c
-  by_row none p c e = rw (assignment_stringless section.Data p) e
-  by_row (some r) p c e = by r.directive e
+  by_row None p c e = rw (assignment_stringless section.Data p) e
+  by_row (Some r) p c e = by r.directive e
     where
       by : (d : Directive) → is_text d ≡ c → is_string (string_in l (directive_in section.Data d r.in_data p (from_byte (length r.name) p))) ≡ c
       by directive.Symbol f = rw (symbol_stringless (from_byte (length r.name) p).bytes) f
@@ -372,16 +372,16 @@ module _ (l : Piece) where
           (by_row (row_in directives (x ∷ xs)) (piece p.at (x ∷ xs)) (is_string_row (row_in directives (x ∷ xs))) refl)
 
   -- so that a string directive stores one, and no other statement does
-  pub string_found : (p : Piece) → is_string_row (row_in directives p.bytes) ≡ true → Some (λ x. string_in l (unlabelled_of section.Data p) ≡ some x)
+  pub string_found : (p : Piece) → is_string_row (row_in directives p.bytes) ≡ true → Exists (λ x. string_in l (unlabelled_of section.Data p) ≡ Some x)
   string_found p e = by (string_in l (unlabelled_of section.Data p)) (string-row p ∙ e)
     where
-      by : (o : Option OwnStatement) → is_string o ≡ true → Some (λ x. o ≡ some x)
-      by none f = absurd (true≢false (sym f))
-      by (some x) f = record { it = x; stands = refl }
+      by : (o : Option OwnStatement) → is_string o ≡ true → Exists (λ x. o ≡ Some x)
+      by None f = absurd (true≢false (sym f))
+      by (Some x) f = record { it = x; stands = refl }
 
-  pub string-other : (p : Piece) → is_string_row (row_in directives p.bytes) ≡ false → string_in l (unlabelled_of section.Data p) ≡ none
+  pub string-other : (p : Piece) → is_string_row (row_in directives p.bytes) ≡ false → string_in l (unlabelled_of section.Data p) ≡ None
   string-other p e = by (string_in l (unlabelled_of section.Data p)) (string-row p ∙ e)
     where
-      by : (o : Option OwnStatement) → is_string o ≡ false → o ≡ none
-      by none f = refl
-      by (some x) f = absurd (true≢false f)
+      by : (o : Option OwnStatement) → is_string o ≡ false → o ≡ None
+      by None f = refl
+      by (Some x) f = absurd (true≢false f)

@@ -4,7 +4,8 @@ use native.Mathlib.Omega.{arith}
 use mathlib.Core.Path.{◌≡◌, refl, sym, ap, ◌∙◌}
 use mathlib.Core.List.{List, [], ◌∷◌, map}
 use lib.ListN.{length, length-map}
-use Rattle.numbers.specs.Results.{Result, value, refused, and_then}
+use Rattle.std.proofs.Common.{Result, Ok, Err}
+use Rattle.numbers.specs.Results.{and_then}
 use Rattle.layout.specs.declared.addresses.Starts.{Starts}
 use Rattle.layout.specs.declared.state.Counters.{Counters}
 use Rattle.layout.specs.Refusals.{Refusal}
@@ -73,23 +74,23 @@ module _ {t : List ℕ} {base : ℕ} {st : Counters} {l n e ix x w d lw : List �
 
 -- both answers together
 module _ (t : List ℕ) (base : ℕ) (σ : State) (st : Counters) (l n e ix d : List ℕ) where
-  abbrev filled : Result Refusal (List ℕ)
+  abbrev filled : Result (List ℕ) Refusal
   filled = fill (label_address base σ) σ.rest.own.stored.label_words σ.rest.own.stored.bytes
 
-  pub fill_stop : (r : Refusal) → Agrees (FillLeft st.rest.own.stored.label_words d) (refused r) filled
-      → Agrees (SymbolsLeft t base σ st l n e ix d) (refused r) (symbols_of base σ)
-  fill_stop r a = then_stop (FillLeft st.rest.own.stored.label_words d) (SymbolsLeft t base σ st l n e ix d) (refused r) filled _ r refl a
+  pub fill_stop : (r : Refusal) → Agrees (FillLeft st.rest.own.stored.label_words d) (Err r) filled
+      → Agrees (SymbolsLeft t base σ st l n e ix d) (Err r) (symbols_of base σ)
+  fill_stop r a = then_stop (FillLeft st.rest.own.stored.label_words d) (SymbolsLeft t base σ st l n e ix d) (Err r) filled _ r refl a
 
-  pub symbols_go : (m : ℕ) (r : Result Refusal ℕ) → LabelsPlaced t base σ st.labels (label_store l n)
-      → Agrees (FillLeft st.rest.own.stored.label_words d) (value m) filled
+  pub symbols_go : (m : ℕ) (r : Result ℕ Refusal) → LabelsPlaced t base σ st.labels (label_store l n)
+      → Agrees (FillLeft st.rest.own.stored.label_words d) (Ok m) filled
       → Agrees (ResolveLeft t e ix st.rest.equates) r (resolve base σ σ.rest.equates) → Agrees (SymbolsLeft t base σ st l n e ix d) r (symbols_of base σ)
   symbols_go m r p a b = by filled (resolve base σ σ.rest.equates) r a b
     where
-      by : (f : Result Refusal (List ℕ)) (g : Result Refusal Turns) (q : Result Refusal ℕ) → Agrees (FillLeft st.rest.own.stored.label_words d) (value m) f
+      by : (f : Result (List ℕ) Refusal) (g : Result Turns Refusal) (q : Result ℕ Refusal) → Agrees (FillLeft st.rest.own.stored.label_words d) (Ok m) f
           → Agrees (ResolveLeft t e ix st.rest.equates) q g
-          → Agrees (SymbolsLeft t base σ st l n e ix d) q (and_then f (λ bytes. and_then g (λ x. value (record { bytes = bytes; turns = x }))))
-      by (refused y) g q a b = absurd a
-      by (value bytes) (value y) (value n) a b = record { labels = p; bytes = a.stored; resolved = b }
-      by (value bytes) (value y) (refused z) a b = absurd b
-      by (value bytes) (refused y) (value n) a b = absurd b
-      by (value bytes) (refused y) (refused z) a b = b
+          → Agrees (SymbolsLeft t base σ st l n e ix d) q (and_then f (λ bytes. and_then g (λ x. Ok (record { bytes = bytes; turns = x }))))
+      by (Err y) g q a b = absurd a
+      by (Ok bytes) (Ok y) (Ok n) a b = record { labels = p; bytes = a.stored; resolved = b }
+      by (Ok bytes) (Ok y) (Err z) a b = absurd b
+      by (Ok bytes) (Err y) (Ok n) a b = absurd b
+      by (Ok bytes) (Err y) (Err z) a b = b

@@ -1,30 +1,26 @@
 -- Expressions term by term: the signs, the term, what joins the next one; and a sum that goes on from a place is what was to be summed, whatever
 -- other names get values.
+use Rattle.layout.proofs.ResultLaws.{value_same}
+use Rattle.layout.specs.Code.Terms.{operator}
+use Rattle.std.proofs.lemmas.Option.{some_pair_parts}
+use Rattle.std.proofs.Common.{Result}
 use Prim.Native.Nat.{ℕ, zero, suc, ◌+◌, ◌-◌, ◌≤◌, ◌<◌}
 use native.Mathlib.Omega.{arith}
 use mathlib.Core.Path.{◌≡◌, refl, sym, ap, ◌∙◌}
 use mathlib.Core.List.{List, [], ◌∷◌}
 use mathlib.Core.Bool.{Bool, true, false, not, ◌&&◌}
-use mathlib.Core.Option.{Option, none, some}
+use Rattle.std.proofs.Common.{Option, None, Some}
 use lib.Dec.{eqb}
 use lib.ListN.{length, take, drop, get_or}
-use lib.IntN.{ℤ, pos, ◌+ℤ◌}
-use Rattle.numbers.specs.Results.{value, refused}
+use lib.IntN.{ℤ, pos}
+use Rattle.std.proofs.Common.{Ok, Err}
 use Rattle.numbers.specs.Text.{leading, is_digit}
 use Rattle.numbers.specs.Numbers.{number_of}
-use Rattle.numbers.specs.Ints.{fit64, sign_times}
-use Rattle.numbers.specs.declared.ints.Checked.{Checked}
-use Rattle.numbers.specs.declared.ints.Checked.TheVariants.{Fits, Beyond}
-use Rattle.numbers.specs.Code.Meanings.{checked_value}
 use Rattle.layout.specs.declared.tokens.Token as code
 use Rattle.layout.specs.declared.tokens.Token.TheVariants as kind
-use Rattle.layout.specs.declared.tokens.Sign.TheVariants as sign
-use Rattle.layout.specs.declared.tokens.TokenAt.TheVariants as scanned
-use Rattle.layout.specs.declared.expr.Joint.{Joint}
-use Rattle.layout.specs.declared.expr.Joint.TheVariants.{Operator, End, Malformed}
 use Rattle.layout.specs.declared.expr.Partial.{Partial}
 use Rattle.layout.specs.declared.expr.Evaluated as answer
-use Rattle.layout.specs.declared.expr.Evaluated.TheVariants.{Value, Waits, Refused}
+use Rattle.layout.specs.declared.expr.Evaluated.TheVariants.{Value, Waits}
 use Rattle.layout.specs.Expressions.{Token, plus, minus, dot, number, name, unreadable, Evaluated, positive, term, joint}
 use Rattle.layout.specs.Expressions.{is_name_byte, is_number_byte, tokens, any_unreadable, add_term, on_name, sum_from, evaluate}
 use Rattle.layout.specs.Code.Tokens.{token_of, numeral, sign_of, TokenStands, spaced_in, blank_in, tokens_from, TokenLeads}
@@ -109,23 +105,32 @@ module _ (one_space : Bool) (s : List ℕ) (from : ℕ) where
   operand_left (kind.Name p) ts o = refl
   operand_left kind.Unreadable ts o = absurd o
 
-  pub signs_operand : (own : Bool) (at : ℕ) → Signing one_space s from own at → (t u : code.Token) (after : ℕ) → TokenLeads one_space s at t after
-      → t ≡ u → IsOperand u → TermStands one_space s from own u after
-  signs_operand own at m t u after l e o =
-      let q : tokens_from one_space s at ≡ token_of s u ∷ tokens_from one_space s after = l.leads ∙ rw e refl in
+  -- a token that is no sign and is read is an operand
+  operand_else : (t : code.Token) → (t ≡ kind.Plus → ⊥) → (t ≡ kind.Minus → ⊥) → (t ≡ kind.Unreadable → ⊥) → IsOperand t
+  operand_else kind.Plus p m u = p refl
+  operand_else kind.Minus p m u = m refl
+  operand_else kind.Dot p m u = tt
+  operand_else (kind.Number z) p m u = tt
+  operand_else (kind.Name n) p m u = tt
+  operand_else kind.Unreadable p m u = u refl
+
+  pub signs_operand : (own : Bool) (at : ℕ) → Signing one_space s from own at → (t : code.Token) (after : ℕ) → TokenLeads one_space s at t after
+      → (t ≡ kind.Plus → ⊥) → (t ≡ kind.Minus → ⊥) → (t ≡ kind.Unreadable → ⊥) → TermStands one_space s from own t after
+  signs_operand own at k t after l p m u =
+      let o = operand_else t p m u in
       record {
-        sign = sym (operand_sign own u (tokens_from one_space s after) o) ∙ sym (ap (own_sign own) q) ∙ m.sign;
+        sign = sym (operand_sign own t (tokens_from one_space s after) o) ∙ sym (ap (own_sign own) l.leads) ∙ k.sign;
         operand = o;
-        leads = sym m.rest ∙ ap unsigned q ∙ operand_left u (tokens_from one_space s after) o;
-        further = omega (arith, m.further, l.further);
+        leads = sym k.rest ∙ ap unsigned l.leads ∙ operand_left t (tokens_from one_space s after) o;
+        further = omega (arith, k.further, l.further);
         within = l.within;
-        named = rw e at l.named;
+        named = l.named;
       }
 
 -- ---- a term
 
 -- no term: 16
-no_term : (look : List ℕ → Option ℤ) (here sum : ℤ) (joining own : Bool) (ts : List Token) → NoTerm ts → sum_from look here sum (term joining own) ts ≡ refused 16
+no_term : (look : List ℕ → Option ℤ) (here sum : ℤ) (joining own : Bool) (ts : List Token) → NoTerm ts → sum_from look here sum (term joining own) ts ≡ Err 16
 unfolding sum_from
 no_term look here sum joining own [] h = refl
 no_term look here sum joining own (plus ∷ ts) h = absurd h
@@ -148,7 +153,7 @@ operand_adds look here sum joining own s (kind.Name p) ts o = refl
 operand_adds look here sum joining own s kind.Unreadable ts o = absurd o
 
 -- a value stays where other names get theirs
-value_stays : (look later : List ℕ → Option ℤ) → Extends look later → (here : ℤ) (t : Token) (v : ℤ) → term_value look here t ≡ some v → term_value later here t ≡ some v
+value_stays : (look later : List ℕ → Option ℤ) → Extends look later → (here : ℤ) (t : Token) (v : ℤ) → term_value look here t ≡ Some v → term_value later here t ≡ Some v
 value_stays look later x here plus v e = e
 value_stays look later x here minus v e = e
 value_stays look later x here dot v e = e
@@ -162,31 +167,15 @@ extends_self look n z e = e
 pub extends_trans : (f g h : List ℕ → Option ℤ) → Extends f g → Extends g h → Extends f h
 extends_trans f g h p q n z e = q n z (p n z e)
 
--- 24's three conditions by what each comes to
-module _ (sum : ℤ) (joining own : Bool) (v : ℤ) where
-  pub adds_own : (p : Checked) → checked_value p ≡ fit64 (sign_times own v) → p ≡ Beyond → AddsTerm sum joining own v Beyond
-  adds_own p e h f = rw (← e, h) refl
-
-  module _ (o : Checked) (p : ℤ) (e : checked_value o ≡ fit64 (sign_times own v)) (is : o ≡ Fits p) where
-    own_fits : fit64 (sign_times own v) ≡ some p
-    own_fits = sym e ∙ ap checked_value is
-
-    pub adds_joining : (q : Checked) → checked_value q ≡ fit64 (sign_times joining p) → q ≡ Beyond → AddsTerm sum joining own v Beyond
-    adds_joining q d h f = rw (own_fits, ← d, h) refl
-
-    pub adds_sum : (j r : Checked) (q : ℤ) → checked_value j ≡ fit64 (sign_times joining p) → j ≡ Fits q → checked_value r ≡ fit64 (sum +ℤ q)
-        → AddsTerm sum joining own v r
-    adds_sum j r q d h g f = rw (own_fits, sym d ∙ ap checked_value h, ← g) refl
-
 -- ---- what joins the next term
 
 -- after the blanks from a place on, at k
 module _ (one_space : Bool) (s : List ℕ) (at k : ℕ) (e : k ≡ at + leading (blank_in one_space) (drop at s)) where
   pub joint_end : length s ≤ k → tokens_from one_space s at ≡ []
-  joint_end h = from-here one_space s at k e scanned.End h
+  joint_end h = from-here one_space s at k e None h
 
   reads : (t : code.Token) (after : ℕ) → TokenStands s k t after → TokenLeads one_space s at t after
-  reads t after w = from-here one_space s at k e (scanned.At t after) w
+  reads t after w = from-here one_space s at k e (Some (t, after)) w
 
   -- a token that is no operator, whatever stands behind it
   no_operator : (t : code.Token) (after : ℕ) → TokenStands s k t after → NoJoint (token_of s t ∷ []) → NoJoint (tokens_from one_space s at)
@@ -201,20 +190,20 @@ module _ (one_space : Bool) (s : List ℕ) (at k : ℕ) (e : k ≡ at + leading 
       alone unreadable ts n = n
 
   module _ (h : k < length s) where
-    pub joint_sign : (minus : Bool) → sign_of (get_or s k 0) ≡ sign.Is minus → JointStands one_space s at minus (k + 1)
+    pub joint_sign : (minus : Bool) → sign_of (get_or s k 0) ≡ Some minus → JointStands one_space s at minus (k + 1)
     joint_sign false q = let l = reads kind.Plus (k + 1) (plus_stands s k h q) in record { leads = l.leads; further = l.further; within = l.within }
     joint_sign true q = let l = reads kind.Minus (k + 1) (minus_stands s k h q) in record { leads = l.leads; further = l.further; within = l.within }
 
     -- any other byte begins a token that joins nothing
-    pub joint-other : sign_of (get_or s k 0) ≡ sign.Nothing → NoJoint (tokens_from one_space s at)
+    pub joint-other : sign_of (get_or s k 0) ≡ None → NoJoint (tokens_from one_space s at)
     joint-other z = by (is_digit (get_or s k 0)) refl (is_name_byte (get_or s k 0)) refl (eqb (get_or s k 0) 46 && eqb (end - k) 1) refl
       where
         end : ℕ
         end = k + leading is_name_byte (drop k s)
 
         numeral_joins : (o : Option ℤ) → NoJoint (token_of s (numeral o) ∷ [])
-        numeral_joins none = tt
-        numeral_joins (some z) = tt
+        numeral_joins None = tt
+        numeral_joins (Some z) = tt
 
         by : (d : Bool) → is_digit (get_or s k 0) ≡ d → (n : Bool) → is_name_byte (get_or s k 0) ≡ n → (o : Bool) → eqb (get_or s k 0) 46 && eqb (end - k) 1 ≡ o
             → NoJoint (tokens_from one_space s at)
@@ -226,20 +215,16 @@ module _ (one_space : Bool) (s : List ℕ) (at k : ℕ) (e : k ≡ at + leading 
         by false d true f false q = no_operator _ end (name_stands s k h z d f end refl q) tt
 
 -- where a sum goes on
-pub joint-first : (one_space : Bool) (s : List ℕ) (at : ℕ) → at ≡ 0 → JointAt one_space s at (Operator positive 0)
+pub joint-first : (one_space : Bool) (s : List ℕ) (at : ℕ) → at ≡ 0 → JointAt one_space s at (operator positive 0)
 joint-first one_space s zero e = refl
 joint-first one_space s (suc n) e = absurd (omega arith)
 
-pub joint_behind : (one_space : Bool) (s : List ℕ) (at : ℕ) → (at ≡ 0 → ⊥) → (r : Joint) → JointFrom one_space s at r → JointAt one_space s at r
+pub joint_behind : (one_space : Bool) (s : List ℕ) (at : ℕ) → (at ≡ 0 → ⊥) → (r : Result (Option (Bool × ℕ)) ℕ) → JointFrom one_space s at r → JointAt one_space s at r
 joint_behind one_space s zero n r j = absurd (n refl)
 joint_behind one_space s (suc i) n r j = j
 
-pub joint_further : (one_space : Bool) (s : List ℕ) (at : ℕ) (joining : Bool) (k : ℕ) → JointAt one_space s at (Operator joining k) → at ≤ k
-joint_further one_space s zero joining k j = omega arith
-joint_further one_space s (suc n) joining k j = omega (arith, j.further)
-
 -- what joins no term: 16
-no_joint : (look : List ℕ → Option ℤ) (here sum : ℤ) (ts : List Token) → NoJoint ts → sum_from look here sum joint ts ≡ refused 16
+no_joint : (look : List ℕ → Option ℤ) (here sum : ℤ) (ts : List Token) → NoJoint ts → sum_from look here sum joint ts ≡ Err 16
 unfolding sum_from
 no_joint look here sum [] h = absurd h
 no_joint look here sum (plus ∷ ts) h = absurd h
@@ -251,24 +236,23 @@ no_joint look here sum (unreadable ∷ ts) h = refl
 
 -- what the sum comes to from a place on, by what stands there
 module _ (one_space : Bool) (s : List ℕ) (look : List ℕ → Option ℤ) (here sum : ℤ) where
-  joined_by : (at : ℕ) (joining : Bool) (k : ℕ) → JointAt one_space s at (Operator joining k)
+  joined_by : (at : ℕ) (joining : Bool) (k : ℕ) → JointAt one_space s at (operator joining k)
       → sum_from look here sum (wanted_at at) (tokens_from one_space s at) ≡ sum_from look here sum (term joining positive) (tokens_from one_space s k)
   unfolding sum_from
   joined_by zero joining k j =
-      let p : joining ≡ positive = cc in
-      let q : k ≡ 0 = cc in
-      rw (p, q) refl
+      let same = some_pair_parts joining positive k 0 (value_same j) in
+      rw (same.0, same.1) refl
   joined_by (suc n) false k j = ap (sum_from look here sum joint) j.leads
   joined_by (suc n) true k j = ap (sum_from look here sum joint) j.leads
 
-  joined_end : (at : ℕ) → JointAt one_space s at End → sum_from look here sum (wanted_at at) (tokens_from one_space s at) ≡ value (some sum)
+  joined_end : (at : ℕ) → JointAt one_space s at (Ok None) → sum_from look here sum (wanted_at at) (tokens_from one_space s at) ≡ Ok (Some sum)
   unfolding sum_from
   joined_end zero j = absurd (let z : ◌≡◌ {A = ℕ} 0 1 = cc in omega arith)
   joined_end (suc n) j = ap (sum_from look here sum joint) j
 
-  joined-none : (at : ℕ) → JointAt one_space s at Malformed → sum_from look here sum (wanted_at at) (tokens_from one_space s at) ≡ refused 16
-  joined-none zero j = absurd (let z : ◌≡◌ {A = ℕ} 0 1 = cc in omega arith)
-  joined-none (suc n) j = no_joint look here sum (tokens_from one_space s (suc n)) j
+  joined-none : (at n : ℕ) → JointAt one_space s at (Err n) → sum_from look here sum (wanted_at at) (tokens_from one_space s at) ≡ Err n
+  joined-none zero n j = absurd (let z : ◌≡◌ {A = ℕ} 0 1 = cc in omega arith)
+  joined-none (suc i) n j = no_joint look here sum (tokens_from one_space s (suc i)) j.0 ∙ ap Err (sym j.1)
 
 -- ---- the sum, term by term
 
@@ -283,17 +267,17 @@ module _ (look : List ℕ → Option ℤ) (one_space : Bool) (s : List ℕ) (her
   ends : (r : Evaluated) → sum_from look here sum (wanted_at at) (tokens_from one_space s at) ≡ r → r ≡ f look
   ends r e = sym e ∙ sym (m look (extends_self look))
 
-  pub sum_end : JointAt one_space s at End → Evaluates look one_space s here f (Value sum)
-  sum_end j = record { answers = ends (value (some sum)) (joined_end one_space s look here sum at j); waiting = tt }
+  pub sum_end : JointAt one_space s at (Ok None) → Evaluates look one_space s here f (Ok (Value sum))
+  sum_end j = record { answers = ends (Ok (Some sum)) (joined_end one_space s look here sum at j); waiting = tt }
 
-  pub sum_malformed : JointAt one_space s at Malformed → Evaluates look one_space s here f (Refused 16)
-  sum_malformed j = record { answers = ends (refused 16) (joined-none one_space s look here sum at j); waiting = tt }
+  pub sum_malformed : (n : ℕ) → JointAt one_space s at (Err n) → Evaluates look one_space s here f (Err n)
+  sum_malformed n j = record { answers = ends (Err n) (joined-none one_space s look here sum at n j); waiting = tt }
 
-  module _ (joining : Bool) (k : ℕ) (j : JointAt one_space s at (Operator joining k)) where
-    pub sum_missing : NoTerm (unsigned (tokens_from one_space s k)) → Evaluates look one_space s here f (Refused 16)
+  module _ (joining : Bool) (k : ℕ) (j : JointAt one_space s at (operator joining k)) where
+    pub sum_missing : NoTerm (unsigned (tokens_from one_space s k)) → Evaluates look one_space s here f (Err 16)
     sum_missing h =
         record {
-          answers = ends (refused 16)
+          answers = ends (Err 16)
               (joined_by one_space s look here sum at joining k j
               ∙ sum_unsigned look here sum joining positive (tokens_from one_space s k)
               ∙ no_term look here sum joining (own_sign positive (tokens_from one_space s k)) (unsigned (tokens_from one_space s k)) h);
@@ -312,22 +296,22 @@ module _ (look : List ℕ → Option ℤ) (one_space : Bool) (s : List ℕ) (her
           ∙ operand_adds later here sum joining own s t (tokens_from one_space s after) w.operand
 
       -- a name without a value: the sum goes on from here
-      pub sum_waits : none ≡ term_value look here (token_of s t) → Evaluates look one_space s here f (Waits (record { sum = sum; at = at }))
+      pub sum_waits : None ≡ term_value look here (token_of s t) → Evaluates look one_space s here f (Ok (Waits (record { sum = sum; at = at })))
       sum_waits e =
           record {
-            answers = ends (value none) (adds look ∙ rw (← e) refl);
+            answers = ends (Ok None) (adds look ∙ rw (← e) refl);
             waiting = record {
               waits = record { joining = joining; first = k; joint = j; own = own; operand = t; after = after; stands = w; unknown = e };
               goes = m;
             };
           }
 
-      module _ (v : ℤ) (e : some v ≡ term_value look here (token_of s t)) where
-        pub sum_beyond : AddsTerm sum joining own v Beyond → Evaluates look one_space s here f (Refused 24)
-        sum_beyond a = record { answers = ends (refused 24) (adds look ∙ rw (← e) (a _)); waiting = tt }
+      module _ (v : ℤ) (e : Some v ≡ term_value look here (token_of s t)) where
+        pub sum_beyond : AddsTerm sum joining own v None → Evaluates look one_space s here f (Err 24)
+        sum_beyond a = record { answers = ends (Err 24) (adds look ∙ rw (← e) (a _)); waiting = tt }
 
         -- the sum with the term
-        pub sum_next : (z : ℤ) → AddsTerm sum joining own v (Fits z) → GoesOn look one_space s here f (record { sum = z; at = after })
+        pub sum_next : (z : ℤ) → AddsTerm sum joining own v (Some z) → GoesOn look one_space s here f (record { sum = z; at = after })
         sum_next z a = λ later x. m later x ∙ adds later ∙ rw (value_stays look later x here (token_of s t) v (sym e), wanted_behind after (omega (arith, w.further))) (a _)
 
 -- ---- the whole expression
@@ -338,26 +322,26 @@ unsummed = record { sum = pos 0; at = 0 }
 
 module _ (look : List ℕ → Option ℤ) (one_space : Bool) (s : List ℕ) (here : ℤ) where
   -- one token that is unreadable refuses
-  pub evaluates_unreadable : any_unreadable (tokens (spaced_in one_space s)) ≡ true → Evaluates look one_space s here (evaluation_of one_space s here) (Refused 16)
+  pub evaluates_unreadable : any_unreadable (tokens (spaced_in one_space s)) ≡ true → Evaluates look one_space s here (evaluation_of one_space s here) (Err 16)
   unfolding evaluate
   evaluates_unreadable e = record { answers = rw e refl; waiting = tt }
 
-  module _ (r : answer.Evaluated) (e : any_unreadable (tokens (spaced_in one_space s)) ≡ false) where
+  module _ (r : Result answer.Evaluated ℕ) (e : any_unreadable (tokens (spaced_in one_space s)) ≡ false) where
     -- else it is the sum
     is_sum : (later : List ℕ → Option ℤ) → sum_on one_space s here unsummed later ≡ evaluation_of one_space s here later
     unfolding evaluate tokens_from
     is_sum later = rw e refl
 
-    waits_as_sum : (q : answer.Evaluated) → Waiting look one_space s here (sum_on one_space s here unsummed) q → Waiting look one_space s here (evaluation_of one_space s here) q
-    waits_as_sum (Value z) w = tt
-    waits_as_sum (Waits p) w = record { waits = w.waits; goes = λ later x. sym (is_sum later) ∙ w.goes later x }
-    waits_as_sum (Refused n) w = tt
+    waits_as_sum : (q : Result answer.Evaluated ℕ) → Waiting look one_space s here (sum_on one_space s here unsummed) q → Waiting look one_space s here (evaluation_of one_space s here) q
+    waits_as_sum (Ok (Value z)) w = tt
+    waits_as_sum (Ok (Waits p)) w = record { waits = w.waits; goes = λ later x. sym (is_sum later) ∙ w.goes later x }
+    waits_as_sum (Err n) w = tt
 
     pub evaluates_sum : Evaluates look one_space s here (sum_on one_space s here unsummed) r → Evaluates look one_space s here (evaluation_of one_space s here) r
     evaluates_sum v = record { answers = v.answers ∙ is_sum look; waiting = waits_as_sum r v.waiting }
 
   -- a value needs no second look at the tokens
-  pub evaluates_value : (z : ℤ) → Evaluates look one_space s here (sum_on one_space s here unsummed) (Value z) → Evaluates look one_space s here (evaluation_of one_space s here) (Value z)
+  pub evaluates_value : (z : ℤ) → Evaluates look one_space s here (sum_on one_space s here unsummed) (Ok (Value z)) → Evaluates look one_space s here (evaluation_of one_space s here) (Ok (Value z))
   unfolding tokens_from
   evaluates_value z v =
-      evaluates_sum (Value z) (valued_readable look here (pos 0) (term positive positive) (tokens (spaced_in one_space s)) z (sym v.answers)) v
+      evaluates_sum (Ok (Value z)) (valued_readable look here (pos 0) (term positive positive) (tokens (spaced_in one_space s)) z (sym v.answers)) v

@@ -4,14 +4,15 @@ use Prim.Native.Nat.{ℕ, suc, ◌+◌, ◌*◌, ◌≤◌, ◌<◌}
 use mathlib.Core.Path.{◌≡◌, refl, sym, ◌∙◌, ap, subst}
 use mathlib.Core.List.{List, [], ◌∷◌, ◌++◌}
 use mathlib.Core.Bool.{Bool, true, false, ◌||◌}
-use mathlib.Core.Option.{Option, none, some}
+use Rattle.std.proofs.Common.{Option, None, Some}
 use native.Mathlib.Nat.{zero-add}
 use native.Mathlib.Omega.{arith}
 use lib.Dec.{ltb, leb}
 use lib.IntN.{ℤ}
 use lib.ListN.{length}
 use borrow.Author.Tests.{lt-ltb, le-ltb}
-use Rattle.numbers.specs.Results.{Result, value, refused, and_then, mapped}
+use Rattle.std.proofs.Common.{Result, Ok, Err}
+use Rattle.numbers.specs.Results.{and_then, mapped}
 use Rattle.numbers.specs.Numbers.{imm_of}
 use Rattle.numbers.specs.Strings.{string_bytes}
 use Rattle.layout.specs.declared.state.Section.{Section}
@@ -105,22 +106,22 @@ module _ (k : Room) (line : ℕ) where
   item_stays : (o : Option Pseudo) (p : Piece) (σ : Items) → Gives (λ τ. Stays line σ.list τ.list) (add_item k line o p σ)
   unfolding add_item
   item_stays o p σ =
-      let P : Result ℕ Items → Type 0 = Gives (λ τ. Stays line σ.list τ.list) in
+      let P : Result Items ℕ → Type 0 = Gives (λ τ. Stays line σ.list τ.list) in
       test_has P (ltb (length σ.list) k.items) _ _
       (test_has P (leb (σ.words + reserved_words o p.bytes) k.words) _ _ (λ n h. above_more n σ.list _ h) tt) tt
 
   text_stays : (p : Piece) (i : Item) (σ : Items) → Gives (λ τ. Stays line σ.list τ.list) (text_line k line p i σ)
   unfolding text_line
   text_stays p other σ = tt
-  text_stays p ordinary σ = item_stays none p σ
-  text_stays p (pseudo q) σ = item_stays (some q) p σ
+  text_stays p ordinary σ = item_stays None p σ
+  text_stays p (pseudo q) σ = item_stays (Some q) p σ
 
   -- what writes elsewhere leaves the items
-  elsewhere : {A : Type 0} (σ : Own) (f : A → Own) → ((a : A) → OwnStays σ (f a)) → (x : Result ℕ A) → Gives (OwnStays σ) (mapped f x)
-  elsewhere σ f h (value a) = h a
-  elsewhere σ f h (refused n) = tt
+  elsewhere : {A : Type 0} (σ : Own) (f : A → Own) → ((a : A) → OwnStays σ (f a)) → (x : Result A ℕ) → Gives (OwnStays σ) (mapped f x)
+  elsewhere σ f h (Ok a) = h a
+  elsewhere σ f h (Err n) = tt
 
-  in_data : (rs : List (Result ℕ Write)) (σ : Own) → Gives (OwnStays σ) (mapped (with_stored σ) (data_line k line rs σ.stored))
+  in_data : (rs : List (Result Write ℕ)) (σ : Own) → Gives (OwnStays σ) (mapped (with_stored σ) (data_line k line rs σ.stored))
   in_data rs σ = elsewhere σ (with_stored σ) (λ x. stays_same line σ.items.list) (data_line k line rs σ.stored)
 
   own_stays : (s : OwnStatement) (σ : Own) → Gives (OwnStays σ) (own_line k line s σ)
@@ -156,7 +157,7 @@ module _ (k : Room) (line : ℕ) where
       by (equate name e) =
           let x : Equate = record { name = name; expr = e; place = here σ.own; line = line } in
           mapped_gives (EquatesReached (suc line) xs) _ (with_equates σ) (add_equate k x σ.equates) (λ es h. (same, h))
-          (test_has (Gives (EquatesReached (suc line) xs)) (ltb (length σ.equates) k.equates) (value (σ.equates ++ x ∷ [])) (refused 46)
+          (test_has (Gives (EquatesReached (suc line) xs)) (ltb (length σ.equates) k.equates) (Ok (σ.equates ++ x ∷ [])) (Err 46)
           (each_append _ σ.equates (x ∷ []) (on xs same) (g, tt)) tt)
       by (own s) =
           mapped_gives (OwnStays σ.own) _ (with_own σ) (own_line k line s σ.own) (λ τ h. (h, on τ.items.list h)) (own_stays s σ.own)
@@ -174,11 +175,11 @@ module _ (k : Room) (line : ℕ) where
       on = each_weaker _ _ (λ x. still_reached line line xs xs (omega arith) (stays_same line xs) x.line x.place) σ.labels r
 
       by : (o : Option Piece) → Gives (LabelsReached (suc line) xs) (label_step k (here σ.rest.own) line o σ.labels)
-      by none = on
-      by (some name) =
+      by None = on
+      by (Some name) =
           let x : Label = record { name = name; place = here σ.rest.own; line = line } in
           test_has (Gives (LabelsReached (suc line) xs)) (is_label name.bytes σ.labels || ltb (length σ.labels) k.labels)
-          (value (recorded x σ.labels)) (refused 45)
+          (Ok (recorded x σ.labels)) (Err 45)
           (recorded_each _ x σ.labels g on) tt
 
 -- all that the first m lines reached
@@ -216,12 +217,12 @@ module _ (t : List ℕ) (k : Room) (few_words : k.words ≤ word_limit) (few_byt
       rw e (by (step_line k line p σ) (step_line_fits t k few_words few_bytes line (omega (arith, h)) p σ i.0 f) (step_laid k line p σ g)
       (step_reached t k line p σ f g r) (λ τ. lines_reached (suc line) ps τ (omega (arith, h)) i.1))
     where
-      by : (x : Result ℕ State) → Gives (Fits t k) x → Comes (Laid (suc line)) (λ n. is_in line_numbers n ≡ true) x → Gives (PlacesReached (suc line)) x
+      by : (x : Result State ℕ) → Gives (Fits t k) x → Comes (Laid (suc line)) (λ n. is_in line_numbers n ≡ true) x → Gives (PlacesReached (suc line)) x
           → ((τ : State) → Fits t k τ → Laid (suc line) τ → PlacesReached (suc line) τ
           → Gives (PlacesReached (suc line + length ps)) (line_stage k (suc line) ps τ))
           → Gives (PlacesReached (suc line + length ps)) (and_then (at_line line x) (line_stage k (suc line) ps))
-      by (value τ) f g r more = more τ f g r
-      by (refused n) f g r more = tt
+      by (Ok τ) f g r more = more τ f g r
+      by (Err n) f g r more = tt
 
 -- all that the lines reached
 pub stage_reached : (t : List ℕ) (k : Lent) → Gives (PlacesReached (length (lines t))) (line_stage (room_of k) 0 (line_pieces 0 (lines t)) start)

@@ -3,7 +3,7 @@ use Prim.Native.Nat.{ℕ, zero, suc, ◌+◌, ◌-◌, ◌≤◌, ◌<◌}
 use mathlib.Core.Path.{◌≡◌, refl, sym, ap, ◌∙◌}
 use mathlib.Core.List.{List, [], ◌∷◌}
 use mathlib.Core.Bool.{Bool, true, false, cond, ◌&&◌, false≢true}
-use mathlib.Core.Option.{Option, none, some}
+use Rattle.std.proofs.Common.{Option, None, Some}
 use native.Mathlib.Omega.{arith}
 use lib.Dec.{leb, eqb}
 use lib.ListN.{length, take, drop, get_or, length-drop, drop_of_length-le}
@@ -17,8 +17,6 @@ use Rattle.numbers.proofs.Bools.{and_left, and_right}
 use Rattle.numbers.proofs.Trims.{leading_more, leading-within}
 use Rattle.layout.specs.declared.tokens.Token as code
 use Rattle.layout.specs.declared.tokens.Token.TheVariants as kind
-use Rattle.layout.specs.declared.tokens.Sign.{Sign}
-use Rattle.layout.specs.declared.tokens.Sign.TheVariants as sign
 use Rattle.layout.specs.Expressions.{Token, name, is_blank, is_name_byte, is_number_byte, number_token, name_token, positive, negative, scan, tokens_in, tokens}
 use Rattle.layout.specs.Code.Tokens.{token_of, numeral, sign_of, TokenWithin, TokenStands}
 use Rattle.layout.proofs.Ending.{scan_takes, tokens_fuel}
@@ -84,36 +82,36 @@ run-number b bs e =
 
 -- a byte by what it is as a sign
 module _ (b : ℕ) where
-  sign_by : (P : Sign → Type 0) → (eqb b 43 ≡ true → P (sign.Is positive)) → (eqb b 43 ≡ false → eqb b 45 ≡ true → P (sign.Is negative))
-      → (eqb b 43 ≡ false → eqb b 45 ≡ false → P sign.Nothing) → P (sign_of b)
+  sign_by : (P : Option Bool → Type 0) → (eqb b 43 ≡ true → P (Some positive)) → (eqb b 43 ≡ false → eqb b 45 ≡ true → P (Some negative))
+      → (eqb b 43 ≡ false → eqb b 45 ≡ false → P None) → P (sign_of b)
   sign_by P on-plus on-minus on-other = go (eqb b 43) refl (eqb b 45) refl
     where
-      go : (t : Bool) → eqb b 43 ≡ t → (u : Bool) → eqb b 45 ≡ u → P (cond t (sign.Is positive) (cond u (sign.Is negative) sign.Nothing))
+      go : (t : Bool) → eqb b 43 ≡ t → (u : Bool) → eqb b 45 ≡ u → P (cond t (Some positive) (cond u (Some negative) None))
       go true e u f = on-plus e
       go false e true f = on-minus e f
       go false e false f = on-other e f
 
-  sign_plus : sign_of b ≡ sign.Is positive → b ≡ 43
-  sign_plus = sign_by (λ x. x ≡ sign.Is positive → b ≡ 43) (λ e h. eqb-true b 43 e) (λ e f h. cc) (λ e f h. cc)
+  sign_plus : sign_of b ≡ Some positive → b ≡ 43
+  sign_plus = sign_by (λ x. x ≡ Some positive → b ≡ 43) (λ e h. eqb-true b 43 e) (λ e f h. cc) (λ e f h. cc)
 
-  sign_minus : sign_of b ≡ sign.Is negative → b ≡ 45
-  sign_minus = sign_by (λ x. x ≡ sign.Is negative → b ≡ 45) (λ e h. cc) (λ e f h. eqb-true b 45 f) (λ e f h. cc)
+  sign_minus : sign_of b ≡ Some negative → b ≡ 45
+  sign_minus = sign_by (λ x. x ≡ Some negative → b ≡ 45) (λ e h. cc) (λ e f h. eqb-true b 45 f) (λ e f h. cc)
 
-  no_plus : sign_of b ≡ sign.Nothing → eqb b 43 ≡ false
-  no_plus = sign_by (λ x. x ≡ sign.Nothing → eqb b 43 ≡ false) (λ e h. cc) (λ e f h. e) (λ e f h. e)
+  no_plus : sign_of b ≡ None → eqb b 43 ≡ false
+  no_plus = sign_by (λ x. x ≡ None → eqb b 43 ≡ false) (λ e h. cc) (λ e f h. e) (λ e f h. e)
 
-  no_minus : sign_of b ≡ sign.Nothing → eqb b 45 ≡ false
-  no_minus = sign_by (λ x. x ≡ sign.Nothing → eqb b 45 ≡ false) (λ e h. cc) (λ e f h. cc) (λ e f h. f)
+  no_minus : sign_of b ≡ None → eqb b 45 ≡ false
+  no_minus = sign_by (λ x. x ≡ None → eqb b 45 ≡ false) (λ e h. cc) (λ e f h. cc) (λ e f h. f)
 
 -- ---- what stands at a place
 
 numeral_token : (s : List ℕ) (o : Option ℤ) → number_token o ≡ token_of s (numeral o)
-numeral_token s none = refl
-numeral_token s (some z) = refl
+numeral_token s None = refl
+numeral_token s (Some z) = refl
 
 numeral-within : (s : List ℕ) (o : Option ℤ) → TokenWithin s (numeral o)
-numeral-within s none = tt
-numeral-within s (some z) = tt
+numeral-within s None = tt
+numeral-within s (Some z) = tt
 
 and_so : (a : Bool) → a && true ≡ false → a ≡ false
 and_so true e = e
@@ -128,11 +126,11 @@ name-run (suc (suc n)) b (y ∷ ys) h k e = refl
 
 -- a token of one byte
 module _ (s : List ℕ) (at : ℕ) (h : at < length s) where
-  pub plus_stands : sign_of (get_or s at 0) ≡ sign.Is positive → TokenStands s at kind.Plus (at + 1)
+  pub plus_stands : sign_of (get_or s at 0) ≡ Some positive → TokenStands s at kind.Plus (at + 1)
   unfolding scan
   plus_stands q = let e = sign_plus (get_or s at 0) q in record { token = rw e refl; next = rw e refl; start = h; within = omega arith; named = tt }
 
-  pub minus_stands : sign_of (get_or s at 0) ≡ sign.Is negative → TokenStands s at kind.Minus (at + 1)
+  pub minus_stands : sign_of (get_or s at 0) ≡ Some negative → TokenStands s at kind.Minus (at + 1)
   unfolding scan
   minus_stands q = let e = sign_minus (get_or s at 0) q in record { token = rw e refl; next = rw e refl; start = h; within = omega arith; named = tt }
 
@@ -161,7 +159,7 @@ module _ (s : List ℕ) (at : ℕ) (h : at < length s) where
         named = rw is (numeral-within s (prefixed run));
       }
 
-  module _ (n : sign_of (get_or s at 0) ≡ sign.Nothing) (d : is_digit (get_or s at 0) ≡ false) where
+  module _ (n : sign_of (get_or s at 0) ≡ None) (d : is_digit (get_or s at 0) ≡ false) where
     -- a byte that begins no token
     pub other_stands : is_name_byte (get_or s at 0) ≡ false → TokenStands s at kind.Unreadable (at + 1)
     unfolding scan

@@ -9,7 +9,8 @@ use mathlib.Core.List.{List, [], ◌∷◌}
 use lib.Dec.{eqb}
 use lib.ListN.{length, take, drop, replicate, length-drop, drop_of_length-le}
 use lib.Seq.{drop-drop, length-take-le}
-use Rattle.numbers.specs.Results.{Result, value, refused, and_then}
+use Rattle.std.proofs.Common.{Result, Ok, Err}
+use Rattle.numbers.specs.Results.{and_then}
 use Rattle.numbers.specs.declared.text.Span.{Span}
 use Rattle.numbers.specs.Text.{starts_with, same, index_of, before}
 use Rattle.numbers.specs.Operands.{cons_first}
@@ -76,7 +77,7 @@ module _ (t : List ℕ) (at end : ℕ) (h : at < length t) (q : end ≡ at + ind
 
 -- a line whose statement is empty leaves the state as it is
 blank_line : (k : Room) (line n : ℕ) (s : Section) (l : Piece) (σ : State) (bytes : List ℕ) → length bytes ≡ 0
-    → step_parsed k line (parsed s l (piece n bytes)) σ ≡ value σ
+    → step_parsed k line (parsed s l (piece n bytes)) σ ≡ Ok σ
 unfolding step_parsed parsed labelled unlabelled_of label_step statement_step starts_with same index_of before
 blank_line k line n s l σ [] e = refl
 blank_line k line n s l σ (x ∷ xs) e = absurd (omega arith)
@@ -84,7 +85,7 @@ blank_line k line n s l σ (x ∷ xs) e = absurd (omega arith)
 -- ---- the loop's head
 
 -- what all the lines come to
-abbrev pub whole : Room → List ℕ → Result Refusal State
+abbrev pub whole : Room → List ℕ → Result State Refusal
 whole k t = line_stage k 0 (line_pieces 0 (lines t)) start
 
 -- the buffers stand for a state from which the lines that are left come to what all of them come to
@@ -104,7 +105,7 @@ head_first t k b s = record { σ = start; stands = s; counted = omega arith; wit
 
 module _ (t : List ℕ) (k : Room) (b : Store) (c : Counters) (at line : ℕ) (h : Head t k b c at line) where
   -- past the last line nothing is left
-  pub turns_end : length t ≤ at → whole k t ≡ value h.σ
+  pub turns_end : length t ≤ at → whole k t ≡ Ok h.σ
   unfolding line_stage lines line_pieces
   turns_end g = sym h.goes ∙ rw (drop_of_length-le t g)
 
@@ -116,14 +117,14 @@ module _ (t : List ℕ) (k : Room) (b : Store) (c : Counters) (at line : ℕ) (h
     cut_there : lines_from t at ≡ cut_line t cut ∷ lines_from t (cut.end + 1)
     cut_there = lines_there t at cut.end below ends ∙ ap (λ (n : ℕ). line_at t n cut.end ∷ lines_from t (cut.end + 1)) (sym starts)
 
-    module _ (b' : Store) (r : Result ℕ Counters) (steps : Steps (Stands t k) c b r b' (step_line k line (cut_line t cut))) where
+    module _ (b' : Store) (r : Result Counters ℕ) (steps : Steps (Stands t k) c b r b' (step_line k line (cut_line t cut))) where
       -- the line's step, then the lines after it
-      here_on : (m : Result ℕ State) → step_line k line (cut_line t cut) h.σ ≡ m
+      here_on : (m : Result State ℕ) → step_line k line (cut_line t cut) h.σ ≡ m
           → and_then (at_line line m) (line_stage k (line + 1) (lines_from t (cut.end + 1))) ≡ whole k t
       unfolding line_stage
       here_on m e = rw (← e, add-one line) (ap (λ (ps : List Piece). line_stage k line ps h.σ) (sym cut_there) ∙ h.goes)
 
-      pub turn_go : (c' : Counters) → r ≡ value c' → Head t k b' c' (cut.end + 1) (line + 1)
+      pub turn_go : (c' : Counters) → r ≡ Ok c' → Head t k b' c' (cut.end + 1) (line + 1)
       turn_go c' e =
           let a = agreed (λ d. Stands t k d b') c' (step_line k line (cut_line t cut) h.σ) (rw e at (steps h.σ h.stands)) in
           record {
@@ -131,17 +132,17 @@ module _ (t : List ℕ) (k : Room) (b : Store) (c : Counters) (at line : ℕ) (h
             stands = a.stands;
             counted = omega (arith, h.counted, ends);
             within = omega (arith, end_within t at cut.end below ends);
-            goes = here_on (value a.it) a.is;
+            goes = here_on (Ok a.it) a.is;
           }
 
-      pub turn-stop : (n : ℕ) → r ≡ refused n → whole k t ≡ refused (record { number = n; line = line })
-      turn-stop n e = sym (here_on (refused n) (agreed_refused (λ d. Stands t k d b') n (step_line k line (cut_line t cut) h.σ) (rw e at (steps h.σ h.stands))))
+      pub turn-stop : (n : ℕ) → r ≡ Err n → whole k t ≡ Err (record { number = n; line = line })
+      turn-stop n e = sym (here_on (Err n) (agreed_refused (λ d. Stands t k d b') n (step_line k line (cut_line t cut) h.σ) (rw e at (steps h.σ h.stands))))
 
     -- a line without a statement leaves all as it is
     pub turn_blank : cut.part.len ≤ 0 → Head t k b c (cut.end + 1) (line + 1)
     turn_blank e =
         let none : length (statement_of (cut_line t cut)).bytes ≡ 0 = sym (ap (λ (q : Span). q.len) w.statement) ∙ omega arith in
-        turn_go b (value c) (λ σ s. rw (blank_line k line _ σ.rest.own.section (cut_line t cut) σ (statement_of (cut_line t cut)).bytes none) s) c refl
+        turn_go b (Ok c) (λ σ s. rw (blank_line k line _ σ.rest.own.section (cut_line t cut) σ (statement_of (cut_line t cut)).bytes none) s) c refl
 
 -- ---- the start
 

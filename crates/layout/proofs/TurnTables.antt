@@ -1,10 +1,12 @@
 -- An equate's turn in code: its expression read back from its record, and what its evaluation says of the turn.
+use Rattle.std.proofs.Common.{Result}
+use Rattle.std.proofs.Common.{Ok, Err}
 use Prim.Native.Nat.{ℕ, ◌+◌, ◌*◌, ◌^◌, ◌≤◌, ◌<◌}
 use native.Mathlib.Omega.{arith}
 use mathlib.Core.Path.{◌≡◌, refl, sym, ap, subst, ◌∙◌}
 use mathlib.Core.List.{List}
 use mathlib.Core.Bool.{Bool, true, false}
-use mathlib.Core.Option.{Option}
+use Rattle.std.proofs.Common.{Option}
 use lib.Dec.{eqb}
 use lib.IntN.{ℤ, pos}
 use lib.ListN.{length}
@@ -12,7 +14,7 @@ use Rattle.numbers.specs.Code.Spans.{spanned}
 use Rattle.layout.specs.declared.addresses.Starts.{Starts}
 use Rattle.layout.specs.declared.expr.Partial.{Partial}
 use Rattle.layout.specs.declared.expr.Evaluated as answer
-use Rattle.layout.specs.declared.expr.Evaluated.TheVariants.{Value, Waits, Refused}
+use Rattle.layout.specs.declared.expr.Evaluated.TheVariants.{Value, Waits}
 use Rattle.layout.specs.declared.state.Section.{Section}
 use Rattle.layout.specs.declared.state.Section.TheVariants as section
 use Rattle.layout.specs.Bytes.{little_endian}
@@ -55,7 +57,7 @@ code_small section.Data o h = omega arith
 code_small section.Bss o h = omega arith
 
 -- what is summed or evaluated of an equate's expression
-abbrev EvaluatesOne : Scope → Equate → (Bool → List ℕ → ℤ → (List ℕ → Option ℤ) → Evaluated) → answer.Evaluated → Type 0
+abbrev EvaluatesOne : Scope → Equate → (Bool → List ℕ → ℤ → (List ℕ → Option ℤ) → Evaluated) → Result answer.Evaluated ℕ → Type 0
 EvaluatesOne s e f r =
     Evaluates (look_in s) e.expr.one_space e.expr.source.bytes (own_address_of s.base s.state e) (f e.expr.one_space e.expr.source.bytes (own_address_of s.base s.state e)) r
 
@@ -114,7 +116,7 @@ module _ {t l n : List ℕ} {c : ℕ} {starts : Starts} {e x : List ℕ} {m : �
   -- and what the evaluation of the expression that was read says of its own
   module _ (bytes : List ℕ) (one_space : Bool) (p : bytes ≡ spanned t (record { start = (expr_record_at exprs k).start; len = (expr_record_at exprs k).len }))
       (q : one_space ≡ (expr_record_at exprs k).one_space) where
-    pub evaluated_told : (f : Bool → List ℕ → ℤ → (List ℕ → Option ℤ) → Evaluated) (here : ℕ) → here ≡ address_at s.base s.state one.place → (r : answer.Evaluated)
+    pub evaluated_told : (f : Bool → List ℕ → ℤ → (List ℕ → Option ℤ) → Evaluated) (here : ℕ) → here ≡ address_at s.base s.state one.place → (r : Result answer.Evaluated ℕ)
         → Evaluates (look_in s) one_space bytes (pos here) (f one_space bytes (pos here)) r → EvaluatesOne s one f r
     evaluated_told f here h r v =
         subst (λ (x : List ℕ). Evaluates (look_in s) one.expr.one_space x (own_address_of s.base s.state one) (f one.expr.one_space x (own_address_of s.base s.state one)) r)
@@ -125,38 +127,38 @@ module _ {t l n : List ℕ} {c : ℕ} {starts : Starts} {e x : List ℕ} {m : �
 -- ---- the turn
 
 module _ (s : Scope) (e : Equate) where
-  pub gives_label : is_label e.name.bytes s.state.labels ≡ true → TurnGives s e (Refused 14)
+  pub gives_label : is_label e.name.bytes s.state.labels ≡ true → TurnGives s e (Err 14)
   gives_label h = record { answers = turn-label s.base s.state s.known e h; blocked = tt }
 
   module _ (free : is_label e.name.bytes s.state.labels ≡ false) where
-    pub gives_known : is_some (constant s.known e.name.bytes) ≡ true → TurnGives s e (Refused 15)
+    pub gives_known : is_some (constant s.known e.name.bytes) ≡ true → TurnGives s e (Err 15)
     gives_known h = record { answers = turn_known s.base s.state s.known e free h; blocked = tt }
 
-    pub gives_evaluated : is_some (constant s.known e.name.bytes) ≡ false → (r : answer.Evaluated) → EvaluatesOne s e evaluation_of r → TurnGives s e r
+    pub gives_evaluated : is_some (constant s.known e.name.bytes) ≡ false → (r : Result answer.Evaluated ℕ) → EvaluatesOne s e evaluation_of r → TurnGives s e r
     unfolding look_in
     gives_evaluated h r v = record { answers = v.answers ∙ turn_evaluates s.base s.state s.known e free h; blocked = by r v }
       where
-        by : (q : answer.Evaluated) → EvaluatesOne s e evaluation_of q → BlockedBy s e q
-        by (Value z) v = tt
-        by (Waits p) v = (
+        by : (q : Result answer.Evaluated ℕ) → EvaluatesOne s e evaluation_of q → BlockedBy s e q
+        by (Ok (Value z)) v = tt
+        by (Ok (Waits p)) v = (
           v.waiting.waits,
           record {
             no_label = free;
             goes = λ ks y c. sym (turn_evaluates s.base s.state ks e free c) ∙ v.waiting.goes (look s.base s.state ks) y;
           },
         )
-        by (Refused n) v = tt
+        by (Err n) v = tt
 
   -- it has waited: its sum goes on
   module _ (p : Partial) (b : Blocked s e p) where
-    pub again_summed : is_some (constant s.known e.name.bytes) ≡ false → (r : answer.Evaluated)
+    pub again_summed : is_some (constant s.known e.name.bytes) ≡ false → (r : Result answer.Evaluated ℕ)
         → EvaluatesOne s e (λ one_space x here. sum_on one_space x here p) r → TurnGives s e r
     unfolding look_in
     again_summed h r v =
         record { answers = v.answers ∙ sym (b.goes s.known (extends_self (look s.base s.state s.known)) h); blocked = by r v }
       where
-        by : (q : answer.Evaluated) → EvaluatesOne s e (λ one_space x here. sum_on one_space x here p) q → BlockedBy s e q
-        by (Value z) v = tt
-        by (Waits q) v =
+        by : (q : Result answer.Evaluated ℕ) → EvaluatesOne s e (λ one_space x here. sum_on one_space x here p) q → BlockedBy s e q
+        by (Ok (Value z)) v = tt
+        by (Ok (Waits q)) v =
             (v.waiting.waits, record { no_label = b.no_label; goes = λ ks y c. b.goes ks y c ∙ v.waiting.goes (look s.base s.state ks) y })
-        by (Refused n) v = tt
+        by (Err n) v = tt

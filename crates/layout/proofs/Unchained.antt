@@ -5,7 +5,7 @@ use mathlib.Core.Path.{◌≡◌, refl, sym, ◌∙◌, ap, ap₂, subst}
 use mathlib.Core.Logic.{◌⊎◌, inl, inr}
 use mathlib.Core.List.{List, [], ◌∷◌, ◌++◌, map}
 use mathlib.Core.Bool.{Bool, true, false, not, ◌||◌, true≢false, false≢true}
-use mathlib.Core.Option.{Option, none, some}
+use Rattle.std.proofs.Common.{Option, None, Some}
 use native.Mathlib.Decide.{dec_lt}
 use native.Mathlib.Omega.{arith}
 use lib.IntN.{ℤ, pos}
@@ -34,30 +34,30 @@ use Rattle.layout.proofs.ResolveLaws.{no_label_address}
 module _ (look : List ℕ → Option ℤ) (here : ℤ) where
   -- no name among these tokens lacks one
   abbrev AllKnown : List Token → Type 0
-  AllKnown ts = (n : List ℕ) → is_one_of (names_in ts) n ≡ true → look n ≡ none → ⊥
+  AllKnown ts = (n : List ℕ) → is_one_of (names_in ts) n ≡ true → look n ≡ None → ⊥
 
   -- of terms that have a sum
   abbrev IfSummed : Wanted → List Token → Type 0 → Type 0
-  IfSummed w ts P = (us : List Term) (v : ℤ) → terms_from w ts ≡ some us → signed_sum look here us ≡ some v → P
+  IfSummed w ts P = (us : List Term) (v : ℤ) → terms_from w ts ≡ Some us → signed_sum look here us ≡ Some v → P
 
   -- a term before them has a value, and they have their sum
-  with_atom : (joining own : Bool) (a : Atom) (ts : List Token) {P : Type 0} → ((atom_value look here a ≡ none → ⊥) → IfSummed joint ts P)
-      → (us : List Term) (v : ℤ) → cons_term joining own a (terms_from joint ts) ≡ some us → signed_sum look here us ≡ some v → P
+  with_atom : (joining own : Bool) (a : Atom) (ts : List Token) {P : Type 0} → ((atom_value look here a ≡ None → ⊥) → IfSummed joint ts P)
+      → (us : List Term) (v : ℤ) → cons_term joining own a (terms_from joint ts) ≡ Some us → signed_sum look here us ≡ Some v → P
   unfolding signed_sum
   with_atom joining own a ts {P} more us v e s = by (terms_from joint ts) refl e
     where
       t : Term
       t = record { joining = joining; own = own; atom = a }
 
-      parts : (rest : List Term) → terms_from joint ts ≡ some rest → (o p : Option ℤ) → atom_value look here a ≡ o → signed_sum look here rest ≡ p
-          → plus_term t o p ≡ some v → P
-      parts rest q none p x y z = absurd (none-some z)
-      parts rest q (some m) none x y z = absurd (none-some z)
-      parts rest q (some m) (some w) x y z = more (λ c. none-some (sym c ∙ x)) rest w q y
+      parts : (rest : List Term) → terms_from joint ts ≡ Some rest → (o p : Option ℤ) → atom_value look here a ≡ o → signed_sum look here rest ≡ p
+          → plus_term t o p ≡ Some v → P
+      parts rest q None p x y z = absurd (none-some z)
+      parts rest q (Some m) None x y z = absurd (none-some z)
+      parts rest q (Some m) (Some w) x y z = more (λ c. none-some (sym c ∙ x)) rest w q y
 
-      by : (o : Option (List Term)) → terms_from joint ts ≡ o → cons_term joining own a o ≡ some us → P
-      by none q e = absurd (none-some e)
-      by (some rest) q e =
+      by : (o : Option (List Term)) → terms_from joint ts ≡ o → cons_term joining own a o ≡ Some us → P
+      by None q e = absurd (none-some e)
+      by (Some rest) q e =
           parts rest q (atom_value look here a) (signed_sum look here rest) refl refl (ap (signed_sum look here) (some_same e) ∙ s)
 
   all_known : (w : Wanted) (ts : List Token) → IfSummed w ts (AllKnown ts)
@@ -70,8 +70,8 @@ module _ (look : List ℕ → Option ℤ) (here : ℤ) where
   all_known (term j o) (name m ∷ ts) us v e s =
       with_atom j o (named m) ts (λ k rest w q y n h c. by n c k (same m n) refl h (all_known joint ts rest w q y n)) us v e s
     where
-      by : (n : List ℕ) → look n ≡ none → (look m ≡ none → ⊥) → (b : Bool) → same m n ≡ b → b || is_one_of (names_in ts) n ≡ true
-          → (is_one_of (names_in ts) n ≡ true → look n ≡ none → ⊥) → ⊥
+      by : (n : List ℕ) → look n ≡ None → (look m ≡ None → ⊥) → (b : Bool) → same m n ≡ b → b || is_one_of (names_in ts) n ≡ true
+          → (is_one_of (names_in ts) n ≡ true → look n ≡ None → ⊥) → ⊥
       by n c k true p h more = k (ap look (same_equal m n p) ∙ c)
       by n c k false p h more = more h c
   all_known (term j o) (unreadable ∷ ts) us v e s = absurd (none-some e)
@@ -205,7 +205,7 @@ module _ (base : ℕ) (σ : State) (l : Layout) (holds : Holds base σ l) where
 
   -- a name that no equate has is not recorded
   none-recorded : (n : List ℕ) (es : List Equate) (up rs : List EquateAt) → OneByOne Held es up rs → is_one_of (map name_of es) n ≡ false
-      → recorded_value rs n ≡ none
+      → recorded_value rs n ≡ None
   unfolding recorded_value
   none-recorded n [] up [] h e = refl
   none-recorded n [] up (r ∷ rs) h e = absurd h
@@ -213,7 +213,7 @@ module _ (base : ℕ) (σ : State) (l : Layout) (holds : Holds base σ l) where
   none-recorded n (x ∷ es) up (r ∷ rs) h e =
       let q : same r.name.bytes n ≡ false =
       ap (λ (p : Piece). same p.bytes n) h.0.name ∙ or_left (same (name_of x) n) (is_one_of (map name_of es) n) e in
-      ap (λ (c : Bool). elim c [ true ↦ some r.value | false ↦ recorded_value rs n ]) q
+      ap (λ (c : Bool). elim c [ true ↦ Some r.value | false ↦ recorded_value rs n ]) q
       ∙ none-recorded n es (up ++ r ∷ []) rs h.1 (or_right (same (name_of x) n) (is_one_of (map name_of es) n) e)
 
   pub holds_unchained : Chained σ → ⊥
@@ -225,7 +225,7 @@ module _ (base : ℕ) (σ : State) (l : Layout) (holds : Holds base σ l) where
       by (undefined n r u) =
           let w = last_use c.1 r in
           let h = (held_of w.1).holds in
-          let e : final_value l n ≡ none =
+          let e : final_value l n ≡ None =
           ap₂ or_else (none-recorded n σ.rest.equates [] l.equates holds.equates u.no_equate)
           (ap as_number (holds.labels n ∙ no_label_address base σ σ.labels n u.no_label)) in
           all_known (final_value l) (pos (address_at base σ w.0.place)) _ (tokens_of w.0) h.terms _ h.well_formed h.value n w.2 e

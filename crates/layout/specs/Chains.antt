@@ -1,7 +1,7 @@
 -- Chains of uses, where 17 stands, and the conditions under which it comes exactly when there is such a chain. The order's demand 3; document 01,
 -- "Lines to places", "Order". What the lines say is σ, as the line stage reads it (`line_stage`); no rounds are spoken of.
 use Rattle.std.specs.Prelude.{ℕ, ◌<◌, ◌≡◌, List, [], ◌∷◌, map, Bool, true, false, not, ◌&&◌, ℤ, pos, ◌+ℤ◌}
-use Rattle.std.proofs.Math.Option.{Option, none, some}
+use Rattle.std.specs.Prelude.{Option, None, Some}
 use Rattle.numbers.specs.Ints.{in64, sign_times}
 use Rattle.layout.specs.Bytes.{is_one_of}
 use Rattle.layout.specs.State.{Equate, State}
@@ -56,14 +56,14 @@ pub record NamesFirst (σ : State) (line : ℕ) : Type 0 where
 
 -- the name n can be evaluated to z: z is its label's address, or the signed sum of an equate of that name under names that can be evaluated
 pub data Worth (base : ℕ) (σ : State) : List ℕ → ℤ → Type 0 where
-  of_label : (n : List ℕ) (a : ℕ) → label_address base σ n ≡ some a → Worth base σ n (pos a)
-  of_equate : (e : Equate) → Among e σ.rest.equates → (look : List ℕ → Option ℤ) → ((n : List ℕ) (z : ℤ) → look n ≡ some z → Worth base σ n z)
-      → (ts : List Term) → terms_of e ≡ some ts → (z : ℤ) → signed_sum look (pos (address_at base σ e.place)) ts ≡ some z
+  of_label : (n : List ℕ) (a : ℕ) → label_address base σ n ≡ Some a → Worth base σ n (pos a)
+  of_equate : (e : Equate) → Among e σ.rest.equates → (look : List ℕ → Option ℤ) → ((n : List ℕ) (z : ℤ) → look n ≡ Some z → Worth base σ n z)
+      → (ts : List Term) → terms_of e ≡ Some ts → (z : ℤ) → signed_sum look (pos (address_at base σ e.place)) ts ≡ Some z
       → Worth base σ (name_of e) z
 
 abbrev pub if_known : Option ℤ → (ℤ → Bool) → Bool
-if_known none f = true
-if_known (some z) f = f z
+if_known None f = true
+if_known (Some z) f = f z
 
 -- 24's "a term times its own signs, that product times the joining operator, or a partial sum", term by term up to the first name without a value:
 -- are all within 64 signed bits?
@@ -76,8 +76,8 @@ is_within look here sum (t ∷ ts) =
 -- "none of 24's products and partial sums overflows", whichever of the names that can be evaluated have their values
 abbrev pub NeverBeyond : ℕ → State → Equate → Type 0
 NeverBeyond base σ e =
-    (look : List ℕ → Option ℤ) → ((n : List ℕ) (z : ℤ) → look n ≡ some z → Worth base σ n z)
-    → (ts : List Term) → terms_of e ≡ some ts → is_within look (pos (address_at base σ e.place)) (pos 0) ts ≡ true
+    (look : List ℕ → Option ℤ) → ((n : List ℕ) (z : ℤ) → look n ≡ Some z → Worth base σ n z)
+    → (ts : List Term) → terms_of e ≡ Some ts → is_within look (pos (address_at base σ e.place)) (pos 0) ts ≡ true
 
 -- ---- the conditions
 

@@ -1,4 +1,5 @@
 pub mod Steps
+pub mod Numbers
 pub mod Places
 pub mod Rows
 pub mod Spans

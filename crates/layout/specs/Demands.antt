@@ -1,8 +1,8 @@
 -- The order's demand 3: what holds of every accepted layout, and of the refusal 17; and of every accepted layout what document 02's W-202 says. Said of
 -- the text and the records alone; σ is what the lines say, as the line stage reads it (`BeforeRounds`).
 use Rattle.std.specs.Prelude.{ℕ, suc, ◌+◌, ◌-◌, ◌*◌, ◌%◌, ◌^◌, ◌≤◌, ◌<◌, max, ◌≡◌, ◌↔◌, List, [], ◌∷◌, ◌++◌, Bool, true, false, cond, ltb, ℤ, pos, negsuc, length, take, drop}
-use Rattle.std.proofs.Math.Option.{Option, none, some}
-use Rattle.numbers.specs.Results.{value}
+use Rattle.std.specs.Prelude.{Option, None, Some}
+use Rattle.std.specs.Prelude.{Ok}
 use Rattle.numbers.specs.Text.{same}
 use Rattle.numbers.specs.Numbers.{imm_of, imm64_of}
 use Rattle.numbers.specs.Registers.{register_of}
@@ -25,12 +25,12 @@ use Rattle.layout.specs.Held.{held_layout}
 -- ---- "the final labels and equates", as the records have them
 
 unfoldable pub recorded_value : List EquateAt → List ℕ → Option ℤ
-recorded_value [] n = none
-recorded_value (r ∷ rs) n = elim (same r.name.bytes n) [ true ↦ some r.value | false ↦ recorded_value rs n ]
+recorded_value [] n = None
+recorded_value (r ∷ rs) n = elim (same r.name.bytes n) [ true ↦ Some r.value | false ↦ recorded_value rs n ]
 
 unfoldable pub recorded_address : List LabelAt → List ℕ → Option ℕ
-recorded_address [] n = none
-recorded_address (r ∷ rs) n = elim (same r.name.bytes n) [ true ↦ some r.address | false ↦ recorded_address rs n ]
+recorded_address [] n = None
+recorded_address (r ∷ rs) n = elim (same r.name.bytes n) [ true ↦ Some r.address | false ↦ recorded_address rs n ]
 
 -- "Equates are looked up before labels; a name in neither is undefined"
 abbrev pub final_value : Layout → List ℕ → Option ℤ
@@ -65,11 +65,11 @@ pub record EquateHolds (base : ℕ) (σ : State) (l : Layout) (e : Equate) (abov
   pub line : r.line ≡ e.line
   -- "each equate's recorded value is its signed sum under the final labels and equates, `.` being its own line's address"
   pub terms : List Term
-  pub well_formed : terms_of e ≡ some terms
-  pub value : signed_sum (final_value l) (pos (address_at base σ e.place)) terms ≡ some r.value
+  pub well_formed : terms_of e ≡ Some terms
+  pub value : signed_sum (final_value l) (pos (address_at base σ e.place)) terms ≡ Some r.value
   -- "no equate name is shared or a label"
-  pub unshared : recorded_value (above ++ below) (name_of e) ≡ none
-  pub no_label : recorded_address l.labels (name_of e) ≡ none
+  pub unshared : recorded_value (above ++ below) (name_of e) ≡ None
+  pub no_label : recorded_address l.labels (name_of e) ≡ None
   -- "An equate's recorded round is the largest of .."; none uses itself
   pub round : r.round ≡ lawful_round (is_used e) above below
   pub not_itself : is_used e (name_of e) ≡ false
@@ -79,7 +79,7 @@ pub record EquateHolds (base : ℕ) (σ : State) (l : Layout) (e : Equate) (abov
 -- "each label word holds its label's address": four bytes of the data, little-endian
 pub record LabelWordHolds (l : Layout) (w : LabelWord) : Type 0 where
   pub address : ℕ
-  pub known : recorded_address l.labels w.name ≡ some address
+  pub known : recorded_address l.labels w.name ≡ Some address
   pub small : address < 2 ^ 32
   pub stands : take 4 (drop w.at l.data_bytes) ≡ little_endian 4 address
 
@@ -100,8 +100,8 @@ word_from line l (i ∷ below) = elim (ltb i.line line) [ true ↦ word_from lin
 
 -- what an li's second operand says: "its written number" where `parse_imm` takes one, as it is written, and else "its name's value"
 abbrev pub li_says : Option ℤ → Option ℤ → Option ℤ → Option ℤ
-li_says (some z) written named = written
-li_says none written named = named
+li_says (Some z) written named = written
+li_says None written named = named
 
 abbrev pub li_value : Layout → List ℕ → Option ℤ
 li_value l b = li_says (imm_of b) (imm64_of b) (recorded_value l.equates b)
@@ -122,9 +122,9 @@ pub record Loads (source : List ℕ) (ws : List ℕ) (says : List ℕ → Option
   pub second : List ℕ
   pub operands : pseudo_operands source ≡ first ∷ second ∷ []
   pub register : ℕ
-  pub is_register : register_of first ≡ some register
+  pub is_register : register_of first ≡ Some register
   pub value : ℤ
-  pub said : says second ≡ some value
+  pub said : says second ≡ Some value
   pub loads : LoadsIn ws register (modulo32 value)
 
 pub record ItemHolds (base : ℕ) (l : Layout) (x : ItemLine) (above : List ItemAt) (i : ItemAt) (below : List ItemAt) : Type 0 where
@@ -138,8 +138,8 @@ pub record ItemHolds (base : ℕ) (l : Layout) (x : ItemLine) (above : List Item
   pub sized : length (item_words l i below) ≡ reserved_words x.item x.source.bytes
   -- "each li or la item's words, run in order by themselves whatever the registers hold, leave its written number, or its name's value or address,
   -- modulo 2^32 in its register, x0 excepted"
-  pub li : x.item ≡ some Li → Loads x.source.bytes (item_words l i below) (li_value l)
-  pub la : x.item ≡ some La → Loads x.source.bytes (item_words l i below) (la_value l)
+  pub li : x.item ≡ Some Li → Loads x.source.bytes (item_words l i below) (li_value l)
+  pub la : x.item ≡ Some La → Loads x.source.bytes (item_words l i below) (la_value l)
 
 -- ---- the whole
 
@@ -147,9 +147,9 @@ pub record ItemHolds (base : ℕ) (l : Layout) (x : ItemLine) (above : List Item
 pub record BeforeRounds (t : List ℕ) (base : ℕ) (k : Lent) (σ : State) (bytes : List ℕ) : Type 0 where
   pub low : base ≤ base_limit
   pub short : length t ≤ text_limit
-  pub plain : check_bytes 0 t ≡ value tt
-  pub read : line_stage (room_of k) 0 (line_pieces 0 (lines t)) start ≡ value σ
-  pub filled : fill (label_address base σ) σ.rest.own.stored.label_words σ.rest.own.stored.bytes ≡ value bytes
+  pub plain : check_bytes 0 t ≡ Ok tt
+  pub read : line_stage (room_of k) 0 (line_pieces 0 (lines t)) start ≡ Ok σ
+  pub filled : fill (label_address base σ) σ.rest.own.stored.label_words σ.rest.own.stored.bytes ≡ Ok bytes
 
 -- "In every accepted layout .."
 pub record Holds (base : ℕ) (σ : State) (l : Layout) : Type 0 where
@@ -163,7 +163,7 @@ pub record Holds (base : ℕ) (σ : State) (l : Layout) : Type 0 where
   -- so no label of the text section is "four bytes off", nor is an equate's `.` there: each is the address of the first word at its line or below it, or
   -- of the words' end
   pub text_labels : (x : Label) → Among x σ.labels → x.place.section ≡ section.Text
-      → recorded_address l.labels x.name.bytes ≡ some (base + 4 * word_from x.line l l.items)
+      → recorded_address l.labels x.name.bytes ≡ Some (base + 4 * word_from x.line l l.items)
   pub text_dots : (e : Equate) → Among e σ.rest.equates → e.place.section ≡ section.Text
       → address_at base σ e.place ≡ base + 4 * word_from e.line l l.items
   -- "Its evaluations are the sum of the n equates' rounds, at most n(n+1)/2"

@@ -1,8 +1,8 @@
 -- Directives: one table of their spellings, and what their operands do in the data and the bss. Document 01, "Lines to places".
 use Rattle.std.specs.Prelude.{ℕ, ◌+◌, ◌-◌, List, [], ◌∷◌, ◌++◌, map, Bool, true, false, cond, ◌&&◌, ◌||◌, eqb, replicate, ℤ, pos, negsuc}
-use Rattle.std.proofs.Math.Option.{Option, none, some}
+use Rattle.std.specs.Prelude.{Option, None, Some}
 use Rattle.std.specs.Int.Bits.{bit_and}
-use Rattle.numbers.specs.Results.{Result, value, refused}
+use Rattle.std.specs.Prelude.{Result, Ok, Err}
 use Rattle.numbers.specs.Text.{text, byte, starts_with, is_digit}
 use Rattle.numbers.specs.Ints.{is_byte, is_half, bits}
 use Rattle.numbers.specs.Numbers.{imm_of, imm64_of}
@@ -61,8 +61,8 @@ directives =
 
 -- "Directives match by prefix: `.words` is `.word s`"
 unfoldable pub row_in : List Row → List ℕ → Option Row
-row_in [] s = none
-row_in (r ∷ rs) s = cond (starts_with r.name s) (some r) (row_in rs s)
+row_in [] s = None
+row_in (r ∷ rs) s = cond (starts_with r.name s) (Some r) (row_in rs s)
 
 -- ---- zeros and alignments, in data and bss
 
@@ -77,12 +77,12 @@ place_after p (Zeros n) = p + n
 place_after p (Aligns n) = aligned n p
 
 -- "`.space` and `.zero` (in bss also `.skip`) give zeros"; 6 unreadable, 7 "alignment below 1, size below 0"
-abbrev pub reservation : Reserve → Option ℤ → Result ℕ Reservation
-reservation x none = refused 6
-reservation Space (some (pos n)) = value (Zeros n)
-reservation Space (some (negsuc n)) = refused 7
-reservation Align (some (pos n)) = cond (eqb n 0) (refused 7) (value (Aligns n))
-reservation Align (some (negsuc n)) = refused 7
+abbrev pub reservation : Reserve → Option ℤ → Result Reservation ℕ
+reservation x None = Err 6
+reservation Space (Some (pos n)) = Ok (Zeros n)
+reservation Space (Some (negsuc n)) = Err 7
+reservation Align (Some (pos n)) = cond (eqb n 0) (Err 7) (Ok (Aligns n))
+reservation Align (Some (negsuc n)) = Err 7
 
 -- ---- what is stored
 
@@ -125,28 +125,28 @@ range_at Word z = true
 range_at Dword z = true
 
 -- an operand that is no number: "6, for `.word` 8", or a name there
-abbrev pub unread : Width → List ℕ → Result ℕ Write
-unread Byte s = refused 6
-unread Half s = refused 6
-unread Word s = cond (is_label_name s) (value (address_of s)) (refused 8)
-unread Dword s = refused 6
+abbrev pub unread : Width → List ℕ → Result Write ℕ
+unread Byte s = Err 6
+unread Half s = Err 6
+unread Word s = cond (is_label_name s) (Ok (address_of s)) (Err 8)
+unread Dword s = Err 6
 
-abbrev pub number_or_name : Width → Option ℤ → List ℕ → Result ℕ Write
-number_or_name w none s = unread w s
-number_or_name w (some z) s = cond (range_at w z) (value (bytes (little_endian (width_bytes w) (bits 64 z)))) (refused 7)
+abbrev pub number_or_name : Width → Option ℤ → List ℕ → Result Write ℕ
+number_or_name w None s = unread w s
+number_or_name w (Some z) s = cond (range_at w z) (Ok (bytes (little_endian (width_bytes w) (bits 64 z)))) (Err 7)
 
 -- one definition over the width for byte, half, word and dword
-abbrev pub operand_write : Width → List ℕ → Result ℕ Write
+abbrev pub operand_write : Width → List ℕ → Result Write ℕ
 operand_write w s = number_or_name w (read_at w s) s
 
 -- a string's bytes, "and `.asciz` and `.string` add a 0"; "9 string malformed"
-abbrev pub string_write : ℕ → Option (List ℕ) → Result ℕ Write
-string_write _ none = refused 9
-string_write zeros (some s) = value (bytes (s ++ replicate zeros 0))
+abbrev pub string_write : ℕ → Option (List ℕ) → Result Write ℕ
+string_write _ None = Err 9
+string_write zeros (Some s) = Ok (bytes (s ++ replicate zeros 0))
 
 -- what a directive that stores does, operand by operand; a string as document 01 has it, "what stands between is stored unchanged" (others:
 -- `Statements`, `string`); 21 for `.float`
-abbrev pub store_writes : Store → List ℕ → List (Result ℕ Write)
+abbrev pub store_writes : Store → List ℕ → List (Result Write ℕ)
 store_writes (Numbers w) s = map (operand_write w) (operands s)
 store_writes (Text zeros) s = string_write zeros (string_of s) ∷ []
-store_writes Float s = refused 21 ∷ []
+store_writes Float s = Err 21 ∷ []

@@ -1,8 +1,9 @@
 -- The nine pseudo-instructions as lists of instructions, in three steps: operands, names, instructions. Document 01's module pseudo.rs, refusals 18 to
 -- 20, "count and register before label or number"; document 02, W-202.
 use Rattle.std.specs.Prelude.{ℕ, List, Bool, cond, ℤ}
-use Rattle.std.proofs.Math.Option.{Option, none, some}
-use Rattle.numbers.specs.Results.{Result, value, refused, and_then, mapped, or_refuse}
+use Rattle.std.specs.Prelude.{Option, None, Some}
+use Rattle.std.specs.Prelude.{Result, Ok, Err}
+use Rattle.numbers.specs.Results.{and_then, mapped, or_refuse}
 use Rattle.numbers.specs.Text.{text, starts_with}
 use Rattle.numbers.specs.Ints.{is_signed32, bits}
 use Rattle.numbers.specs.Numbers.{imm_of}
@@ -27,39 +28,39 @@ pub data Wanted : Type 0 where
   register_label : ℕ → List ℕ → Wanted
 
 -- one operand, a register
-abbrev pub wanted_register : Option ℕ → Result ℕ Wanted
-wanted_register none = refused 18
-wanted_register (some n) = value (register n)
+abbrev pub wanted_register : Option ℕ → Result Wanted ℕ
+wanted_register None = Err 18
+wanted_register (Some n) = Ok (register n)
 
-abbrev pub one_register : List (List ℕ) → Result ℕ Wanted
+abbrev pub one_register : List (List ℕ) → Result Wanted ℕ
 one_register ops = or_refuse 18 (only ops) (λ a. wanted_register (register_of a))
 
 -- one operand, a label: "or a register in place of print_str's, read's or read_byte's label"
-abbrev pub wanted_label : List ℕ → Option ℕ → Result ℕ Wanted
-wanted_label a none = value (label a)
-wanted_label a (some n) = refused 18
+abbrev pub wanted_label : List ℕ → Option ℕ → Result Wanted ℕ
+wanted_label a None = Ok (label a)
+wanted_label a (Some n) = Err 18
 
-abbrev pub one_label : List (List ℕ) → Result ℕ Wanted
+abbrev pub one_label : List (List ℕ) → Result Wanted ℕ
 one_label ops = or_refuse 18 (only ops) (λ a. wanted_label a (register_of a))
 
 -- la's operands, and li's
-abbrev pub label_last : RegisterAnd → Result ℕ Wanted
-label_last p = value (register_label p.register p.last)
+abbrev pub label_last : RegisterAnd → Result Wanted ℕ
+label_last p = Ok (register_label p.register p.last)
 
-abbrev pub register_and_label : List (List ℕ) → Result ℕ Wanted
+abbrev pub register_and_label : List (List ℕ) → Result Wanted ℕ
 register_and_label ops = or_refuse 18 (register_and ops) label_last
 
 abbrev pub number_or : ℕ → List ℕ → Option ℤ → Wanted
-number_or rd b none = equate rd b
-number_or rd b (some z) = number rd z
+number_or rd b None = equate rd b
+number_or rd b (Some z) = number rd z
 
-abbrev pub number_last : RegisterAnd → Result ℕ Wanted
-number_last p = value (number_or p.register p.last (imm_of p.last))
+abbrev pub number_last : RegisterAnd → Result Wanted ℕ
+number_last p = Ok (number_or p.register p.last (imm_of p.last))
 
-abbrev pub register_and_number : List (List ℕ) → Result ℕ Wanted
+abbrev pub register_and_number : List (List ℕ) → Result Wanted ℕ
 register_and_number ops = or_refuse 18 (register_and ops) number_last
 
-abbrev pub wanted : Pseudo → List (List ℕ) → Result ℕ Wanted
+abbrev pub wanted : Pseudo → List (List ℕ) → Result Wanted ℕ
 wanted Li ops = register_and_number ops
 wanted La ops = register_and_label ops
 wanted Push ops = one_register ops
@@ -84,20 +85,20 @@ li_load one rd z = cond one (single rd z) (word rd (bits 32 z))
 
 -- "19 li operand": an equate that 32 signed bits hold; a text that begins with a quote is no name. Document 02, W-202: "An equate beyond 32 signed bits
 -- is still 19"
-abbrev pub li_held : Option ℤ → Result ℕ ℤ
-li_held none = refused 19
-li_held (some z) = cond (is_signed32 z) (value z) (refused 19)
+abbrev pub li_held : Option ℤ → Result ℤ ℕ
+li_held None = Err 19
+li_held (Some z) = cond (is_signed32 z) (Ok z) (Err 19)
 
-abbrev pub li_constant : (List ℕ → Option ℤ) → List ℕ → Result ℕ ℤ
-li_constant const b = cond (starts_with (text "'") b) (refused 19) (li_held (const b))
+abbrev pub li_constant : (List ℕ → Option ℤ) → List ℕ → Result ℤ ℕ
+li_constant const b = cond (starts_with (text "'") b) (Err 19) (li_held (const b))
 
 -- what the operands come to: a register alone with the bits 0, a number, an equate's value or 19, a label's address or "20 label not found"
-abbrev pub looked_up : (List ℕ → Option ℤ) → (List ℕ → Option ℕ) → Wanted → Result ℕ Arguments
-looked_up const place (register rd) = value (word rd 0)
-looked_up const place (number rd z) = value (li_load (is_single (some z)) rd z)
-looked_up const place (equate rd b) = mapped (li_load (is_single none) rd) (li_constant const b)
-looked_up const place (label a) = or_refuse 20 (place a) (λ n. value (word x0 n))
-looked_up const place (register_label rd a) = or_refuse 20 (place a) (λ n. value (word rd n))
+abbrev pub looked_up : (List ℕ → Option ℤ) → (List ℕ → Option ℕ) → Wanted → Result Arguments ℕ
+looked_up const place (register rd) = Ok (word rd 0)
+looked_up const place (number rd z) = Ok (li_load (is_single (Some z)) rd z)
+looked_up const place (equate rd b) = mapped (li_load (is_single None) rd) (li_constant const b)
+looked_up const place (label a) = or_refuse 20 (place a) (λ n. Ok (word x0 n))
+looked_up const place (register_label rd a) = or_refuse 20 (place a) (λ n. Ok (word rd n))
 
 -- ---- instructions
 
@@ -119,7 +120,7 @@ instructions p (single rd z) = load_single rd z
 
 -- what a pseudo stands for, of its operands: the instructions, or a refusal's number
 abbrev pub Expanded : Type 0
-Expanded = Result ℕ (List Instruction)
+Expanded = Result (List Instruction) ℕ
 
 unfoldable pub expansion : (List ℕ → Option ℤ) → (List ℕ → Option ℕ) → Pseudo → List (List ℕ) → Expanded
 expansion const place p ops = mapped (instructions p) (and_then (wanted p ops) (looked_up const place))

@@ -1,7 +1,7 @@
 -- Expressions: tokens, terms and the signed sum. Document 01, "Lines to places", the last rule.
 use Rattle.std.specs.Prelude.{ℕ, zero, suc, List, [], ◌∷◌, Bool, true, false, cond, not, ◌&&◌, ◌||◌, leb, eqb, length, take, drop, ℤ, pos, ◌+ℤ◌}
-use Rattle.std.proofs.Math.Option.{Option, none, some}
-use Rattle.numbers.specs.Results.{Result, value, refused}
+use Rattle.std.specs.Prelude.{Option, None, Some}
+use Rattle.std.specs.Prelude.{Result, Ok, Err}
 use Rattle.numbers.specs.Text.{byte, leading, is_digit}
 use Rattle.numbers.specs.Ints.{fit64, sign_times}
 use Rattle.numbers.specs.Numbers.{prefixed}
@@ -38,8 +38,8 @@ abbrev scanned : Token → ℕ → Scanned
 scanned t n = record { token = t; size = n }
 
 abbrev pub number_token : Option ℤ → Token
-number_token none = unreadable
-number_token (some z) = number z
+number_token None = unreadable
+number_token (Some z) = number z
 
 -- a name alone that is a dot is `.`
 abbrev pub name_token : List ℕ → Token
@@ -82,7 +82,7 @@ any_unreadable (t ∷ ts) = is_unreadable t || any_unreadable ts
 
 -- what an evaluation comes to: a value, none where a name has no value yet, or a refusal
 abbrev pub Evaluated : Type 0
-Evaluated = Result ℕ (Option ℤ)
+Evaluated = Result (Option ℤ) ℕ
 
 -- signs, as `sign_times` takes them
 abbrev pub positive : Bool
@@ -97,8 +97,8 @@ pub data Wanted : Type 0 where
   joint : Wanted
 
 abbrev pub on_fit : Option ℤ → (ℤ → Evaluated) → Evaluated
-on_fit none f = refused 24
-on_fit (some z) f = f z
+on_fit None f = Err 24
+on_fit (Some z) f = f z
 
 -- "24 a term times its own signs, that product times the joining operator, or a partial sum, beyond 64 signed bits"
 abbrev pub add_term : ℤ → (joining own : Bool) → ℤ → (ℤ → Evaluated) → Evaluated
@@ -106,27 +106,27 @@ add_term sum joining own z f =
     on_fit (fit64 (sign_times own z)) (λ p. on_fit (fit64 (sign_times joining p)) (λ q. on_fit (fit64 (sum +ℤ q)) f))
 
 abbrev pub on_name : Option ℤ → (ℤ → Evaluated) → Evaluated
-on_name none f = value none
-on_name (some z) f = f z
+on_name None f = Ok None
+on_name (Some z) f = f z
 
 -- "Terms, each negated by every `-` just before it, are added left to right in 64 signed bits"; 16 where a term or an operator is missing
 unfoldable pub sum_from : (List ℕ → Option ℤ) → ℤ → ℤ → Wanted → List Token → Evaluated
-sum_from look here sum (term joining own) [] = refused 16
-sum_from look here sum joint [] = value (some sum)
+sum_from look here sum (term joining own) [] = Err 16
+sum_from look here sum joint [] = Ok (Some sum)
 sum_from look here sum (term joining own) (plus ∷ ts) = sum_from look here sum (term joining own) ts
 sum_from look here sum (term joining own) (minus ∷ ts) = sum_from look here sum (term joining (not own)) ts
 sum_from look here sum (term joining own) (dot ∷ ts) = add_term sum joining own here (λ z. sum_from look here z joint ts)
 sum_from look here sum (term joining own) (number v ∷ ts) = add_term sum joining own v (λ z. sum_from look here z joint ts)
 sum_from look here sum (term joining own) (name n ∷ ts) =
     on_name (look n) (λ v. add_term sum joining own v (λ z. sum_from look here z joint ts))
-sum_from look here sum (term joining own) (unreadable ∷ ts) = refused 16
+sum_from look here sum (term joining own) (unreadable ∷ ts) = Err 16
 sum_from look here sum joint (plus ∷ ts) = sum_from look here sum (term positive positive) ts
 sum_from look here sum joint (minus ∷ ts) = sum_from look here sum (term negative positive) ts
-sum_from look here sum joint (dot ∷ ts) = refused 16
-sum_from look here sum joint (number v ∷ ts) = refused 16
-sum_from look here sum joint (name n ∷ ts) = refused 16
-sum_from look here sum joint (unreadable ∷ ts) = refused 16
+sum_from look here sum joint (dot ∷ ts) = Err 16
+sum_from look here sum joint (number v ∷ ts) = Err 16
+sum_from look here sum joint (name n ∷ ts) = Err 16
+sum_from look here sum joint (unreadable ∷ ts) = Err 16
 
 -- "its expression left to right with unreadable tokens first"; `look` gives a name's value, `here` is `.`
 unfoldable pub evaluate : (List ℕ → Option ℤ) → ℤ → List ℕ → Evaluated
-evaluate look here s = cond (any_unreadable (tokens s)) (refused 16) (sum_from look here (pos 0) (term positive positive) (tokens s))
+evaluate look here s = cond (any_unreadable (tokens s)) (Err 16) (sum_from look here (pos 0) (term positive positive) (tokens s))

@@ -1,7 +1,8 @@
 -- The whole layout: the stages in document 01's order, and the call's answer. Document 01, "Records", "Order".
 use Rattle.std.specs.Prelude.{ℕ, suc, ◌+◌, List, [], ◌∷◌, ◌++◌, map, Bool, true, false, cond, ltb, eqb, length, replicate, ℤ}
-use Rattle.std.proofs.Math.Option.{Option, none, some}
-use Rattle.numbers.specs.Results.{Result, value, refused, and_then}
+use Rattle.std.specs.Prelude.{Option, None, Some}
+use Rattle.std.specs.Prelude.{Result, Ok, Err}
+use Rattle.numbers.specs.Results.{and_then}
 use Rattle.encoder.specs.Encoding.{encoded}
 use Rattle.layout.specs.declared.state.Section.TheVariants as section
 use Rattle.layout.specs.declared.pseudo.Pseudo.{Pseudo}
@@ -46,9 +47,9 @@ pub record Layout : Type 0 where
 
 -- "An ordinary instruction line yields an item and one text word 0"; a pseudo yields its expansion's words, of which the encoder
 -- refuses none (`emission-refused`)
-abbrev pub emission : (List ℕ → Option ℤ) → (List ℕ → Option ℕ) → Option Pseudo → List ℕ → Result ℕ (List ℕ)
-emission const label none s = value (0 ∷ [])
-emission const label (some p) s = and_then (expansion const label p (pseudo_operands s)) encoded
+abbrev pub emission : (List ℕ → Option ℤ) → (List ℕ → Option ℕ) → Option Pseudo → List ℕ → Result (List ℕ) ℕ
+emission const label None s = Ok (0 ∷ [])
+emission const label (Some p) s = and_then (expansion const label p (pseudo_operands s)) encoded
 
 -- the words and the items so far
 pub record Emitted : Type 0 where
@@ -60,8 +61,8 @@ abbrev pub item_at : ℕ → ItemLine → ℕ → ItemAt
 item_at base x n = record { address = base + x.offset; line = x.line; kind = item_kind x.item; first = n; source = x.source }
 
 -- "then pseudos in order"
-unfoldable pub emit : ℕ → (List ℕ → Option ℤ) → (List ℕ → Option ℕ) → List ItemLine → List ℕ → List ItemAt → Result Refusal Emitted
-emit base const label [] ws is = value (record { words = ws; items = is })
+unfoldable pub emit : ℕ → (List ℕ → Option ℤ) → (List ℕ → Option ℕ) → List ItemLine → List ℕ → List ItemAt → Result Emitted Refusal
+emit base const label [] ws is = Ok (record { words = ws; items = is })
 emit base const label (x ∷ xs) ws is =
     and_then (at_line x.line (emission const label x.item x.source.bytes)) (λ vs.
     emit base const label xs (ws ++ vs) (is ++ item_at base x (length ws) ∷ []))
@@ -69,8 +70,8 @@ emit base const label (x ∷ xs) ws is =
 -- ---- the stages
 
 abbrev pub cons_found : Known → Option Found → List EquateAt → List EquateAt
-cons_found k none es = es
-cons_found k (some f) es = record { name = k.equate.name; line = k.equate.line; value = f.value; round = f.round } ∷ es
+cons_found k None es = es
+cons_found k (Some f) es = record { name = k.equate.name; line = k.equate.line; value = f.value; round = f.round } ∷ es
 
 -- the equates with their values, in text order; when the rounds are through, every one has its value (`all_end`)
 unfoldable pub found_equates : List Known → List EquateAt
@@ -78,18 +79,18 @@ found_equates [] = []
 found_equates (k ∷ ks) = cons_found k k.found (found_equates ks)
 
 -- a refusal where a test holds
-abbrev pub refuse_if : Bool → ℕ → ℕ → Result Refusal Unit
-refuse_if true n line = refused (record { number = n; line = line })
-refuse_if false n line = value tt
+abbrev pub refuse_if : Bool → ℕ → ℕ → Result Unit Refusal
+refuse_if true n line = Err (record { number = n; line = line })
+refuse_if false n line = Ok tt
 
 -- "1 byte above 127": at the line of the first
-unfoldable pub check_bytes : ℕ → List ℕ → Result Refusal Unit
-check_bytes line [] = value tt
+unfoldable pub check_bytes : ℕ → List ℕ → Result Unit Refusal
+check_bytes line [] = Ok tt
 check_bytes line (b ∷ bs) =
-    elim (ltb 127 b) [ true ↦ refused (record { number = 1; line = line }) | false ↦ check_bytes (cond (eqb b 10) (suc line) line) bs ]
+    elim (ltb 127 b) [ true ↦ Err (record { number = 1; line = line }) | false ↦ check_bytes (cond (eqb b 10) (suc line) line) bs ]
 
 -- the rounds of all equates, from the first on
-abbrev pub resolve : ℕ → State → List Equate → Result Refusal Turns
+abbrev pub resolve : ℕ → State → List Equate → Result Turns Refusal
 resolve base σ es = rounds base σ (suc (length es)) 1 (map pending_equate es) 0
 
 -- what is accepted
@@ -107,15 +108,15 @@ layout base σ bytes x e =
     }
 
 -- after the lines: "13 in text order; equates by round ..; then pseudos in order"
-unfoldable pub after_lines : ℕ → State → Result Refusal Layout
+unfoldable pub after_lines : ℕ → State → Result Layout Refusal
 after_lines base σ =
     and_then (fill (label_address base σ) σ.rest.own.stored.label_words σ.rest.own.stored.bytes) (λ bytes.
     and_then (resolve base σ σ.rest.equates) (λ x.
     and_then (emit base (constant x.known) (label_address base σ) σ.rest.own.items.list [] []) (λ e.
-    value (layout base σ bytes x e))))
+    Ok (layout base σ bytes x e))))
 
 -- "Order: 40, 41, 1; then lines in order ..": accepted, or refused with a number and a line
-unfoldable pub layout_of : List ℕ → ℕ → Lent → Result Refusal Layout
+unfoldable pub layout_of : List ℕ → ℕ → Lent → Result Layout Refusal
 layout_of t base k =
     and_then (refuse_if (ltb base_limit base) 40 0) (λ _.
     and_then (refuse_if (ltb text_limit (length t)) 41 0) (λ _.
@@ -198,9 +199,9 @@ zero_buffers k =
       items = replicate k.item_bytes 0;
     }
 
-abbrev pub answer_of : Lent → Result Refusal Layout → Answer
-answer_of k (value l) = record { number = 0; line = 0; counts = counts_of l; buffers = buffers_of k l }
-answer_of k (refused r) = record { number = r.number; line = r.line; counts = no_counts; buffers = zero_buffers k }
+abbrev pub answer_of : Lent → Result Layout Refusal → Answer
+answer_of k (Ok l) = record { number = 0; line = 0; counts = counts_of l; buffers = buffers_of k l }
+answer_of k (Err r) = record { number = r.number; line = r.line; counts = no_counts; buffers = zero_buffers k }
 
 -- what the call gives for a text, a base and what is lent
 abbrev pub call_of : List ℕ → ℕ → Lent → Answer

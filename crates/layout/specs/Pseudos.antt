@@ -1,7 +1,7 @@
 -- The nine pseudo-instructions and the four others, by every spelling that `assemble` lists, and the words that an item reserves.
 -- Document 01, "Lines to places"; document 02, W-202.
 use Rattle.std.specs.Prelude.{ℕ, List, [], ◌∷◌, Bool, true, false, cond, ◌||◌, ◌&&◌, length, drop, ℤ}
-use Rattle.std.proofs.Math.Option.{Option, none, some}
+use Rattle.std.specs.Prelude.{Option, None, Some}
 use Rattle.numbers.specs.Text.{text, is_space, starts_with, same, one_spaced}
 use Rattle.numbers.specs.Ints.{is_signed12}
 use Rattle.numbers.specs.Numbers.{imm_of}
@@ -69,8 +69,8 @@ pseudo_operands s = item_operands (one_spaced (drop (count_before is_space s) s)
 -- is an li a single addi, by what its second operand reads as? Document 02, W-202: "Where li's second operand isn't a readable number, two words are
 -- emitted". What an li reserves (`li_words`) and what it emits (`li_load`) both go by this
 abbrev pub is_single : Option ℤ → Bool
-is_single none = false
-is_single (some z) = is_signed12 z
+is_single None = false
+is_single (Some z) = is_signed12 z
 
 -- "li reserves one word if it has fewer than two operands or its second reads as -2048 to 2047, else two"
 abbrev pub li_words : List (List ℕ) → ℕ
@@ -92,8 +92,8 @@ pseudo_words Random s = 8
 
 -- the words that an item reserves: "An ordinary instruction line yields an item and one text word"
 abbrev pub reserved_words : Option Pseudo → List ℕ → ℕ
-reserved_words none s = 1
-reserved_words (some p) s = pseudo_words p s
+reserved_words None s = 1
+reserved_words (Some p) s = pseudo_words p s
 
 -- "kind (0 ordinary; 1 to 9 li, la, push, pop, print, print_str, read, read_byte, random)"
 abbrev pub pseudo_kind : Pseudo → ℕ
@@ -108,5 +108,5 @@ pseudo_kind ReadByte = 8
 pseudo_kind Random = 9
 
 abbrev pub item_kind : Option Pseudo → ℕ
-item_kind none = 0
-item_kind (some p) = pseudo_kind p
+item_kind None = 0
+item_kind (Some p) = pseudo_kind p

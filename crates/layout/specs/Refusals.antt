@@ -1,16 +1,16 @@
 -- "A refusal is a number and a 0-based line", and which numbers each stage can say. Document 01, "Refused because of the input", "Refused because of
 -- the state", "Order".
 use Rattle.std.specs.Prelude.{ℕ, List, [], ◌∷◌, ◌++◌, Bool, false, ◌||◌, eqb}
-use Rattle.numbers.specs.Results.{Result, value, refused}
+use Rattle.std.specs.Prelude.{Result, Ok, Err}
 
 pub record Refusal : Type 0 where
   pub number : ℕ
   pub line : ℕ
 
 -- what a line's rule comes to, with the line
-abbrev pub at_line : {A : Type 0} → ℕ → Result ℕ A → Result Refusal A
-at_line line (value a) = value a
-at_line line (refused n) = refused (record { number = n; line = line })
+abbrev pub at_line : {A : Type 0} → ℕ → Result A ℕ → Result A Refusal
+at_line line (Ok a) = Ok a
+at_line line (Err n) = Err (record { number = n; line = line })
 
 -- ---- the numbers, stage by stage in document 01's order
 

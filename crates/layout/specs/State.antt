@@ -1,6 +1,6 @@
 -- What has been laid out so far, nested as the rules take it: a line's label; then an equate; then what the section's own rule writes.
 use Rattle.std.specs.Prelude.{ℕ, ◌*◌, List, [], length}
-use Rattle.std.proofs.Math.Option.{Option}
+use Rattle.std.specs.Prelude.{Option}
 use Rattle.layout.specs.declared.state.Section.{Section}
 use Rattle.layout.specs.declared.state.Section.TheVariants as section
 use Rattle.layout.specs.declared.state.Place.{Place}

@@ -1,8 +1,8 @@
 -- What a line says, read in a section: its label; a section, a symbol, an ignored directive, an equate, or what the section's own rule
 -- takes. Document 01, "Lines to places"; document 02, W-201.
 use Rattle.std.specs.Prelude.{ℕ, List, [], ◌∷◌, Bool, true, false, cond, not, ◌&&◌, ◌||◌, eqb, length, take, drop}
-use Rattle.std.proofs.Math.Option.{Option, none, some}
-use Rattle.numbers.specs.Results.{Result, value, refused}
+use Rattle.std.specs.Prelude.{Option, None, Some}
+use Rattle.std.specs.Prelude.{Result, Ok, Err}
 use Rattle.numbers.specs.Text.{text, byte, is_space, trimmed, starts_with, same, one_spaced}
 use Rattle.layout.specs.declared.state.Section.{Section}
 use Rattle.layout.specs.declared.state.Section.TheVariants as section
@@ -51,22 +51,22 @@ pub data Statement : Type 0 where
   own : OwnStatement → Statement
 
 -- a section's name without its dot: "`text`; `data`, `rodata`, `sdata` and `srodata` are data; `bss` and `sbss` are bss"
-unfoldable pub section_named : List ℕ → Result ℕ Statement
+unfoldable pub section_named : List ℕ → Result Statement ℕ
 section_named n =
-    cond (is_one_of (text "text" ∷ []) n) (value (enters section.Text))
-    (cond (is_one_of (text "data" ∷ text "rodata" ∷ text "sdata" ∷ text "srodata" ∷ []) n) (value (enters section.Data))
-    (cond (is_one_of (text "bss" ∷ text "sbss" ∷ []) n) (value (enters section.Bss))
-    (refused 3)))
+    cond (is_one_of (text "text" ∷ []) n) (Ok (enters section.Text))
+    (cond (is_one_of (text "data" ∷ text "rodata" ∷ text "sdata" ∷ text "srodata" ∷ []) n) (Ok (enters section.Data))
+    (cond (is_one_of (text "bss" ∷ text "sbss" ∷ []) n) (Ok (enters section.Bss))
+    (Err 3)))
 
 abbrev pub without_dot : List ℕ → List ℕ
 without_dot [] = []
 without_dot (x ∷ xs) = cond (eqb x (byte ".")) xs (x ∷ xs)
 
 -- "each with or without a leading dot. `.note.GNU-stack` changes nothing"; 2 where the name is missing, 3 where it is unknown
-unfoldable pub section_of : List ℕ → Result ℕ Statement
+unfoldable pub section_of : List ℕ → Result Statement ℕ
 section_of n =
-    cond (eqb (length n) 0) (refused 2)
-    (cond (same n (text ".note.GNU-stack")) (value nothing)
+    cond (eqb (length n) 0) (Err 2)
+    (cond (same n (text ".note.GNU-stack")) (Ok nothing)
     (section_named (without_dot n)))
 
 -- "A section's name ends at a blank or comma"
@@ -80,19 +80,19 @@ section_name s = take (count_before ends_section_name s) s
 abbrev pub is_section_line : List ℕ → Bool
 is_section_line s = is_one_of (text ".text" ∷ text ".data" ∷ text ".bss" ∷ []) s || starts_with (text ".section") s
 
-unfoldable pub section_line : List ℕ → Result ℕ Statement
+unfoldable pub section_line : List ℕ → Result Statement ℕ
 section_line s = cond (starts_with (text ".section") s) (section_of (section_name (trimmed (drop 8 s)))) (section_of s)
 
 -- "4 no symbol after `.globl`/`.global`"
-unfoldable pub symbol_after : List ℕ → Result ℕ Statement
-symbol_after rest = cond (eqb (length (trimmed rest)) 0) (refused 4) (value nothing)
+unfoldable pub symbol_after : List ℕ → Result Statement ℕ
+symbol_after rest = cond (eqb (length (trimmed rest)) 0) (Err 4) (Ok nothing)
 
 -- "5 `.equ`/`.set` without name or expression"
-unfoldable pub equate_of : Piece → Expr → Result ℕ Statement
-equate_of name expr = cond (is_empty name || is_empty expr.source) (refused 5) (value (equate name expr))
+unfoldable pub equate_of : Piece → Expr → Result Statement ℕ
+equate_of name expr = cond (is_empty name || is_empty expr.source) (Err 5) (Ok (equate name expr))
 
 -- "`.equ` and `.set` part at the first comma, else at the first blank"
-unfoldable pub equ_of : Piece → Result ℕ Statement
+unfoldable pub equ_of : Piece → Result Statement ℕ
 equ_of p =
     cond (holds (byte ",") p)
     (equate_of (trim_piece (piece_before (byte ",") p)) (as_written (trim_piece (piece_after (byte ",") p))))
@@ -106,12 +106,12 @@ is_assignment p =
     && not (is_empty (trim_piece (piece_before (byte "=") p))) && not (is_empty (trim_piece (piece_after (byte "=") p)))
 
 -- "then the section's own rule", for what is neither a directive nor an equate: "10 unknown data directive. 11 unknown bss directive"
-abbrev pub other_in : Section → Piece → Result ℕ Statement
-other_in section.Text p = value (own (item p))
-other_in section.Data p = refused 10
-other_in section.Bss p = refused 11
+abbrev pub other_in : Section → Piece → Result Statement ℕ
+other_in section.Text p = Ok (own (item p))
+other_in section.Data p = Err 10
+other_in section.Bss p = Err 11
 
-unfoldable pub assignment_of : Section → Piece → Result ℕ Statement
+unfoldable pub assignment_of : Section → Piece → Result Statement ℕ
 assignment_of s p =
     cond (is_assignment p)
     (equate_of (trim_piece (piece_before (byte "=") p)) (as_written (trim_piece (piece_after (byte "=") p))))
@@ -119,40 +119,40 @@ assignment_of s p =
 
 -- "then the section's own rule", for a directive and what follows its name: in text any line is an item; `.skip` is unknown in data;
 -- "12 stored data in bss"
-abbrev pub reserves_in : Section → Bool → Reserve → Piece → Piece → Result ℕ Statement
-reserves_in section.Text in_data x p rest = value (own (item p))
-reserves_in section.Data in_data x p rest = cond in_data (value (own (reserves x rest))) (refused 10)
-reserves_in section.Bss in_data x p rest = value (own (reserves_bss x rest))
+abbrev pub reserves_in : Section → Bool → Reserve → Piece → Piece → Result Statement ℕ
+reserves_in section.Text in_data x p rest = Ok (own (item p))
+reserves_in section.Data in_data x p rest = cond in_data (Ok (own (reserves x rest))) (Err 10)
+reserves_in section.Bss in_data x p rest = Ok (own (reserves_bss x rest))
 
-abbrev pub stores_in : Section → Store → Piece → Piece → Result ℕ Statement
-stores_in section.Text x p rest = value (own (item p))
-stores_in section.Data x p rest = value (own (stores x rest))
-stores_in section.Bss x p rest = refused 12
+abbrev pub stores_in : Section → Store → Piece → Piece → Result Statement ℕ
+stores_in section.Text x p rest = Ok (own (item p))
+stores_in section.Data x p rest = Ok (own (stores x rest))
+stores_in section.Bss x p rest = Err 12
 
-abbrev pub directive_in : Section → Directive → Bool → Piece → Piece → Result ℕ Statement
+abbrev pub directive_in : Section → Directive → Bool → Piece → Piece → Result Statement ℕ
 directive_in s directive.Symbol in_data p rest = symbol_after rest.bytes
-directive_in s directive.Ignored in_data p rest = value nothing
+directive_in s directive.Ignored in_data p rest = Ok nothing
 directive_in s directive.Equate in_data p rest = equ_of (trim_piece rest)
 directive_in s (directive.Reserves x) in_data p rest = reserves_in s in_data x p rest
 directive_in s (directive.Stores x) in_data p rest = stores_in s x p rest
 
-abbrev pub on_row : Option Row → Section → Piece → Result ℕ Statement
-on_row none s p = assignment_of s p
-on_row (some r) s p = directive_in s r.directive r.in_data p (from_byte (length r.name) p)
+abbrev pub on_row : Option Row → Section → Piece → Result Statement ℕ
+on_row None s p = assignment_of s p
+on_row (Some r) s p = directive_in s r.directive r.in_data p (from_byte (length r.name) p)
 
 -- "Then `.globl`, ignored directives, `.equ`/`.set`, `name = expr`, then the section's own rule"; no directive is an equate, since it
 -- begins with a dot
-unfoldable pub unlabelled_of : Section → Piece → Result ℕ Statement
-unlabelled_of s p = cond (is_empty p) (value nothing) (on_row (row_in directives p.bytes) s p)
+unfoldable pub unlabelled_of : Section → Piece → Result Statement ℕ
+unlabelled_of s p = cond (is_empty p) (Ok nothing) (on_row (row_in directives p.bytes) s p)
 
 -- a line's label, if it has one, and what follows it
 pub record Line : Type 0 where
   pub label : Option Piece
-  pub says : Result ℕ Statement
+  pub says : Result Statement ℕ
 
 -- "Otherwise text before the first `:` is a label, possibly empty"; an empty name starts at its colon
 abbrev pub label_in : Piece → Option Piece
-label_in p = cond (holds (byte ":") p) (some (trim_piece (piece_before (byte ":") p))) none
+label_in p = cond (holds (byte ":") p) (Some (trim_piece (piece_before (byte ":") p))) None
 
 -- what follows p's label, if h, which p begins with, has a colon; else all of p
 abbrev pub after_label : Piece → Piece → Piece
@@ -170,28 +170,28 @@ before_quote p = piece_before (byte "\"") p
 
 -- "On a line in the data section that begins .. with `.ascii`, `.asciz` or `.string`": no other statement stores a string. Its operand is
 -- what stands behind the directive to the line's end
-abbrev pub string_in : Piece → Result ℕ Statement → Option OwnStatement
-string_in l (value (own (stores (Text zeros) rest))) = some (string zeros (from_place rest.at l))
-string_in l (value (own (stores (Numbers w) rest))) = none
-string_in l (value (own (stores Float rest))) = none
-string_in l (value (own (item p))) = none
-string_in l (value (own (string _ rest))) = none
-string_in l (value (own (reserves x rest))) = none
-string_in l (value (own (reserves_bss x rest))) = none
-string_in l (value nothing) = none
-string_in l (value (enters s)) = none
-string_in l (value (equate name expr)) = none
-string_in l (refused n) = none
+abbrev pub string_in : Piece → Result Statement ℕ → Option OwnStatement
+string_in l (Ok (own (stores (Text zeros) rest))) = Some (string zeros (from_place rest.at l))
+string_in l (Ok (own (stores (Numbers w) rest))) = None
+string_in l (Ok (own (stores Float rest))) = None
+string_in l (Ok (own (item p))) = None
+string_in l (Ok (own (string _ rest))) = None
+string_in l (Ok (own (reserves x rest))) = None
+string_in l (Ok (own (reserves_bss x rest))) = None
+string_in l (Ok nothing) = None
+string_in l (Ok (enters s)) = None
+string_in l (Ok (equate name expr)) = None
+string_in l (Err n) = None
 
 -- any other line is read as document 01 has it, also one whose label has the first quote: `": .ascii "a\n"` stores three bytes
 abbrev pub string_or : Option OwnStatement → Section → Piece → Line
-string_or none s p = labelled s p
-string_or (some x) s p = record { label = label_in (before_quote p); says = value (own x) }
+string_or None s p = labelled s p
+string_or (Some x) s p = record { label = label_in (before_quote p); says = Ok (own x) }
 
 -- the line l, whose statement is p, in a section
 unfoldable pub parsed : Section → Piece → Piece → Line
 parsed s l p =
-    cond (is_section_line p.bytes) (record { label = none; says = section_line p.bytes })
+    cond (is_section_line p.bytes) (record { label = None; says = section_line p.bytes })
     (string_or (string_in l (unlabelled_of s (after_label (before_quote p) p))) s p)
 
 -- a line as it stands in the text, in a section: its label and what it says

@@ -6,9 +6,9 @@ ghost use Rattle.layout.specs.State.{State};
 ghost use Rattle.layout.specs.Stage.{is_label};
 ghost use Rattle.layout.specs.Addresses.{address_at, label_address};
 ghost use Rattle.layout.specs.Code.Tables.{LabelsIndexed};
-ghost use Rattle.layout.specs.Code.Placed.{StartsAt, PlaceCoded, Unplaced, Places, WherePlaced, address_found};
+ghost use Rattle.layout.specs.Code.Placed.{StartsAt, PlaceCoded, Unplaced, Places, WherePlaced};
 
-use crate::labels::{Lookup, find_label, find_spaced};
+use crate::labels::{find_label, find_spaced};
 use crate::records::{LabelRecord, get_label, put_label};
 
 // Where the sections start.
@@ -51,8 +51,7 @@ pub fn place_labels(labels: &mut [u8], count: usize, starts: Starts)
     requires { Unplaced labels.old count starts }
     ensures { Places labels count starts }
 {
-    let mut k = 0;
-    while k < count {
+    for k in 0..count {
         let label = get_label(labels, k);
         let placed = LabelRecord {
             start: label.start,
@@ -61,15 +60,7 @@ pub fn place_labels(labels: &mut [u8], count: usize, starts: Starts)
             line: label.line,
         };
         put_label(labels, k, placed);
-        k += 1;
     }
-}
-
-// A label's address, or nothing where no label has the name.
-#[derive(Clone, Copy)]
-pub enum Address {
-    At(u32),
-    Nothing,
 }
 
 pub fn label_address(
@@ -78,15 +69,13 @@ pub fn label_address(
     index: &[u16],
     count: usize,
     name: &[u8],
-) -> Address
+) -> Option<u32>
     requires { LabelsIndexed text.now labels.now index.now count }
     ensures { WherePlaced text.now labels.now index.now count
-        (λ base σ. address_found result ≡ label_address base σ name.now) }
+        (λ base σ. result ≡ label_address base σ name.now) }
 {
-    let Lookup::At(k) = find_label(text, labels, index, count, name) else {
-        return Address::Nothing;
-    };
-    Address::At(get_label(labels, k).address)
+    let k = find_label(text, labels, index, count, name)?;
+    Some(get_label(labels, k).address)
 }
 
 // Has a label the name?
@@ -94,10 +83,7 @@ pub fn is_label(text: &[u8], labels: &[u8], index: &[u16], count: usize, name: &
     requires { LabelsIndexed text.now labels.now index.now count }
     ensures { WherePlaced text.now labels.now index.now count (λ base σ. result ≡ is_label name.now σ.labels) }
 {
-    match find_label(text, labels, index, count, name) {
-        Lookup::At(_) => true,
-        Lookup::Nothing => false,
-    }
+    find_label(text, labels, index, count, name).is_some()
 }
 
 // What `label_address` answers of an operand's name, its white-space runs made one space. The contract alone names the index.
@@ -107,13 +93,11 @@ pub fn spaced_address(
     index: &[u16],
     count: usize,
     operand: &[u8],
-) -> Address
+) -> Option<u32>
     requires { LabelsIndexed text.now labels.now index.now count }
     ensures { WherePlaced text.now labels.now index.now count
-        (λ base σ. address_found result ≡ label_address base σ (one_spaced operand.now)) }
+        (λ base σ. result ≡ label_address base σ (one_spaced operand.now)) }
 {
-    let Lookup::At(k) = find_spaced(text, labels, count, operand) else {
-        return Address::Nothing;
-    };
-    Address::At(get_label(labels, k).address)
+    let k = find_spaced(text, labels, count, operand)?;
+    Some(get_label(labels, k).address)
 }

@@ -1,37 +1,38 @@
 // The data section: what an operand writes, and the one place where the data grow.
+ghost use Rattle.layout.specs.Code.Numbers.{numbered};
 ghost use Rattle.std.specs.Prelude.{◌≡◌, ◌||◌, List, ◌++◌, ℕ, ◌≤◌, length, drop, pos};
-ghost use Rattle.std.proofs.Math.Option.{some};
+ghost use Rattle.std.specs.Prelude.{Some};
 ghost use Rattle.numbers.specs.Text.{is_digit};
 ghost use Rattle.numbers.specs.Results.{mapped};
 ghost use Rattle.numbers.specs.Numbers.{imm64_of};
 ghost use Rattle.numbers.specs.Code.Spans.{spanned};
 ghost use Rattle.numbers.specs.Literals.{string_of};
 ghost use Rattle.numbers.specs.Strings.{string_bytes};
-ghost use Rattle.numbers.specs.Code.Meanings.{imm64_value};
 ghost use Rattle.layout.specs.declared.data.Readings.TheVariants.{Numbers};
 ghost use Rattle.layout.specs.Limits.{text_limit, data_limit};
 ghost use Rattle.layout.specs.Directives.{gap, is_label_start, is_label_name, width_bytes, read_at, range_at, unread};
 ghost use Rattle.layout.specs.Directives.{number_or_name, operand_write, string_write};
 ghost use Rattle.layout.specs.Stage.{write_size, add_label_word, data_write, data_line};
 ghost use Rattle.layout.specs.Code.Spans.{SpanWithin, LineIn};
-ghost use Rattle.layout.specs.Code.Rows.{SourceFits, reserved_of, ReservedSmall};
+ghost use Rattle.layout.specs.Code.Rows.{SourceFits, ReservedSmall};
 ghost use Rattle.layout.specs.Code.Writes.{write_at, WriteFits, reading_at, ReadingFits, written_bytes, TextSized};
-ghost use Rattle.layout.specs.Code.Writes.{source_readings, readings_from, ReadingsFit, next_code, NextIs};
+ghost use Rattle.layout.specs.Code.Writes.{source_readings, readings_from, ReadingsFit, NextIs};
 ghost use Rattle.layout.specs.Code.Lent.{LabelWordsReady, LabelWordsSteps, DataReady, DataSteps};
 
-use crate::directives::{Reservation, Reserved, Source, Store, Width, place_after, reservation_of};
+use crate::directives::{Reservation, Source, Store, Width, place_after, reservation_of};
 use crate::limits::{LABEL_WORD_LIMIT, Room};
 use crate::little_endian::put_number;
 use crate::pieces::part_in;
 use crate::records::{LabelWordRecord, put_label_word};
-use crate::state::{Count, DataCount, DataStep};
+use crate::refusal::Refusal;
+use crate::state::DataCount;
 use crate::writers::{put_string, put_zeros};
 use numbers::imm::{parse_imm, parse_imm64};
-use numbers::ints::{Imm64, bits_of_i64, i32_of_bits, in_byte, in_half, widened};
-use numbers::literals::{StrLit, parse_str_lit};
-use numbers::operands::{Operand, operand_at};
-use numbers::short::{Short, short_number};
-use numbers::strings::{Quoted, Str, parse_string};
+use numbers::ints::{bits_of_i64, i32_of_bits, in_byte, in_half, widened};
+use numbers::literals::parse_str_lit;
+use numbers::operands::operand_at;
+use numbers::short::short_number;
+use numbers::strings::{Quoted, parse_string};
 use numbers::text::{Span, is_digit, span_bytes};
 
 // What an operand writes: a number of a width, a string of the text and so many bytes 0, zeros, or the address of a label.
@@ -41,13 +42,6 @@ pub enum Write {
     Text(Quoted, usize),
     Gap(Reservation),
     Address(Span),
-}
-
-// What an operand writes, or its refusal.
-#[derive(Clone, Copy)]
-pub enum Reading {
-    As(Write),
-    Refused(u8),
 }
 
 impl Width {
@@ -63,8 +57,8 @@ impl Width {
     }
 
     // An operand's number, as this width reads it.
-    fn read(self, s: &[u8]) -> Imm64
-        ensures { imm64_value result ≡ read_at self s.now }
+    fn read(self, s: &[u8]) -> Option<i64>
+        ensures { result ≡ read_at self s.now }
     {
         match self {
             Width::Byte => widened(parse_imm(s)),
@@ -76,7 +70,7 @@ impl Width {
 
     // What this width reads where v stands: but for `.dword`, the upper half of 32 bits is negative.
     fn signed(self, v: u32) -> i64
-        ensures { (s : List ℕ) → imm64_of s ≡ some (pos v) → read_at self s ≡ some result }
+        ensures { (s : List ℕ) → imm64_of s ≡ Some (pos v) → read_at self s ≡ Some result }
     {
         match self {
             Width::Byte => i32_of_bits(v) as i64,
@@ -121,47 +115,40 @@ fn is_label_name(s: &[u8]) -> bool
     if !is_label_start(s[0]) {
         return false;
     }
-    let mut i = 1;
-    while i < s.len() {
-        if !is_label_byte(s[i]) {
-            return false;
-        }
-        i += 1;
-    }
-    true
+    s[1..].iter().all(|&b| is_label_byte(b))
 }
 
 // An operand that is no number: a label's name for `.word`, else refused.
-fn unread_operand(text: &[u8], width: Width, operand: Span) -> Reading
+fn unread_operand(text: &[u8], width: Width, operand: Span) -> Result<Write, Refusal>
     requires { SpanWithin text.now operand }
     ensures { (reading_at text.now result ≡ unread width (spanned text.now operand))
         × ReadingFits text.now result }
 {
     let Width::Word = width else {
-        return Reading::Refused(6);
+        return Err(Refusal::InvalidNumber);
     };
     if !is_label_name(span_bytes(text, operand)) {
-        return Reading::Refused(8);
+        return Err(Refusal::InvalidWord);
     }
-    Reading::As(Write::Address(operand))
+    Ok(Write::Address(operand))
 }
 
 // A number, where the width stores it.
-fn number_write(width: Width, v: i64) -> Reading
-    ensures { (t s : List ℕ) → (reading_at t result ≡ number_or_name width (some v) s) × ReadingFits t result }
+fn number_write(width: Width, v: i64) -> Result<Write, Refusal>
+    ensures { (t s : List ℕ) → (reading_at t result ≡ number_or_name width (Some v) s) × ReadingFits t result }
 {
     if !width.takes(v) {
-        return Reading::Refused(7);
+        return Err(Refusal::NumberOutOfRange);
     }
-    Reading::As(Write::Number(width, v))
+    Ok(Write::Number(width, v))
 }
 
-fn operand_write(text: &[u8], width: Width, operand: Span) -> Reading
+fn operand_write(text: &[u8], width: Width, operand: Span) -> Result<Write, Refusal>
     requires { SpanWithin text.now operand }
     ensures { (reading_at text.now result ≡ operand_write width (spanned text.now operand))
         × ReadingFits text.now result }
 {
-    let Imm64::Value(v) = width.read(span_bytes(text, operand)) else {
+    let Some(v) = width.read(span_bytes(text, operand)) else {
         return unread_operand(text, width, operand);
     };
     number_write(width, v)
@@ -169,45 +156,38 @@ fn operand_write(text: &[u8], width: Width, operand: Span) -> Reading
 
 // A string as document 01 has it: what stands between the quotes at its ends, unchanged (in as many bytes as it has), and so many bytes 0
 // after it.
-fn unchanged_write(text: &[u8], part: Span, zeros: usize) -> Reading
+fn unchanged_write(text: &[u8], part: Span, zeros: usize) -> Result<Write, Refusal>
     requires { SpanWithin text.now part × (zeros ≤ 1) }
     ensures { (reading_at text.now result ≡ string_write zeros (string_of (spanned text.now part)))
         × ReadingFits text.now result }
 {
-    let StrLit::Inner(inner) = parse_str_lit(span_bytes(text, part)) else {
-        return Reading::Refused(9);
-    };
+    let inner = parse_str_lit(span_bytes(text, part)).ok_or(Refusal::InvalidString)?;
     let between = part_in(text, part, inner);
     let unchanged = Quoted {
         part: between,
         size: between.len,
     };
-    Reading::As(Write::Text(unchanged, zeros))
+    Ok(Write::Text(unchanged, zeros))
 }
 
 // A string to its closing quote, its escapes decoded, and so many bytes 0 after it.
-fn string_write(text: &[u8], part: Span, zeros: usize) -> Reading
+fn string_write(text: &[u8], part: Span, zeros: usize) -> Result<Write, Refusal>
     requires { SpanWithin text.now part × (zeros ≤ 1) }
     ensures { (reading_at text.now result ≡ string_write zeros (string_bytes (spanned text.now part)))
         × ReadingFits text.now result }
 {
-    let Str::Is(quoted) = parse_string(span_bytes(text, part)) else {
-        return Reading::Refused(9);
-    };
+    let quoted = parse_string(span_bytes(text, part)).ok_or(Refusal::InvalidString)?;
     let there = Quoted {
         part: part_in(text, part, quoted.part),
         size: quoted.size,
     };
-    Reading::As(Write::Text(there, zeros))
+    Ok(Write::Text(there, zeros))
 }
 
-fn gap_of(reserved: Reserved) -> Reading
-    ensures { (t : List ℕ) → (reading_at t result ≡ mapped gap (reserved_of reserved)) × (ReservedSmall reserved → ReadingFits t result) }
+fn gap_of(reserved: Result<Reservation, Refusal>) -> Result<Write, Refusal>
+    ensures { (t : List ℕ) → (reading_at t result ≡ mapped gap (numbered reserved)) × (ReservedSmall reserved → ReadingFits t result) }
 {
-    match reserved {
-        Reserved::As(reservation) => Reading::As(Write::Gap(reservation)),
-        Reserved::Refused(n) => Reading::Refused(n),
-    }
+    reserved.map(Write::Gap)
 }
 
 impl Write {
@@ -250,17 +230,17 @@ fn add_label_word(
     line: u32,
     at: usize,
     write: Write,
-) -> Count
+) -> Result<usize, Refusal>
     requires { LabelWordsReady text.now label_words.old count × LineIn text.now line
         × WriteFits text.now write × (at ≤ data_limit) }
     ensures { LabelWordsSteps text.now label_words count result
         (add_label_word line at (write_at text.now write)) }
 {
     let Write::Address(name) = write else {
-        return Count::Now(count);
+        return Ok(count);
     };
     if LABEL_WORD_LIMIT <= count {
-        return Count::Stop(47);
+        return Err(Refusal::LabelWordsFull);
     }
     let word = LabelWordRecord {
         at: at as u32,
@@ -269,7 +249,7 @@ fn add_label_word(
         line,
     };
     put_label_word(label_words, count, word);
-    Count::Now(count + 1)
+    Ok(count + 1)
 }
 
 // The one place where the data grow.
@@ -281,7 +261,7 @@ fn data_write(
     st: DataCount,
     line: u32,
     write: Write,
-) -> DataStep
+) -> Result<DataCount, Refusal>
     requires { DataReady text.now data_bytes.old label_words.old room st × LineIn text.now line
         × WriteFits text.now write }
     ensures { DataSteps text.now data_bytes label_words room st result
@@ -290,49 +270,35 @@ fn data_write(
     let at = st.bytes;
     let n = write.size(text, at);
     if room.bytes < at + n {
-        return DataStep::Stop(42);
+        return Err(Refusal::DataFull);
     }
     write.put(text, &mut data_bytes[at..], n);
-    match add_label_word(text, label_words, st.label_words, line, at, write) {
-        Count::Now(count) => DataStep::Now(DataCount {
-            bytes: at + n,
-            label_words: count,
-        }),
-        Count::Stop(m) => DataStep::Stop(m),
-    }
-}
-
-// What a line reads next: what is written and the place to go on from, a refusal, or nothing more.
-#[derive(Clone, Copy)]
-enum Next {
-    As(Write, usize),
-    Refused(u8),
-    End,
-}
-
-fn next_of(reading: Reading, after: usize) -> Next
-    ensures { result ≡ next_code reading after }
-{
-    match reading {
-        Reading::As(write) => Next::As(write, after),
-        Reading::Refused(n) => Next::Refused(n),
-    }
+    let count = add_label_word(text, label_words, st.label_words, line, at, write)?;
+    Ok(DataCount {
+        bytes: at + n,
+        label_words: count,
+    })
 }
 
 // The operand that begins at a place: most are short numbers.
-fn next_number(text: &[u8], width: Width, part: Span, at: usize) -> Next
+fn next_number(
+    text: &[u8],
+    width: Width,
+    part: Span,
+    at: usize,
+) -> Result<Option<(Write, usize)>, Refusal>
     requires { SpanWithin text.now part }
     ensures { NextIs text.now (Numbers width) (spanned text.now part) at result }
 {
     let bytes = span_bytes(text, part);
-    if let Short::Is(v, after) = short_number(bytes, at) {
-        return next_of(number_write(width, width.signed(v)), after);
+    if let Some((v, after)) = short_number(bytes, at) {
+        return Ok(Some((number_write(width, width.signed(v))?, after)));
     }
-    let Operand::At(operand, after) = operand_at(bytes, at) else {
-        return Next::End;
+    let Some((operand, after)) = operand_at(bytes, at) else {
+        return Ok(None);
     };
     let place = part_in(text, part, operand);
-    next_of(operand_write(text, width, place), after)
+    Ok(Some((operand_write(text, width, place)?, after)))
 }
 
 // What a line reads: numbers operand by operand, all else at once, before the loop over them: there its readers would be inlined, and cost
@@ -340,7 +306,7 @@ fn next_number(text: &[u8], width: Width, part: Span, at: usize) -> Next
 #[derive(Clone, Copy)]
 enum Readings {
     Numbers(Width),
-    Once(Reading),
+    Once(Result<Write, Refusal>),
 }
 
 fn readings_of(text: &[u8], source: Source, part: Span) -> Readings
@@ -352,7 +318,7 @@ fn readings_of(text: &[u8], source: Source, part: Span) -> Readings
         Source::Stores(what) => match what {
             Store::Numbers(width) => Readings::Numbers(width),
             Store::Text(zeros) => Readings::Once(unchanged_write(text, part, zeros)),
-            Store::Float => Readings::Once(Reading::Refused(21)),
+            Store::Float => Readings::Once(Err(Refusal::Unsupported)),
         },
         Source::String(zeros) => Readings::Once(string_write(text, part, zeros)),
         Source::Reserves(what) => Readings::Once(gap_of(reservation_of(
@@ -362,7 +328,12 @@ fn readings_of(text: &[u8], source: Source, part: Span) -> Readings
     }
 }
 
-fn next_write(text: &[u8], readings: Readings, part: Span, at: usize) -> Next
+fn next_write(
+    text: &[u8],
+    readings: Readings,
+    part: Span,
+    at: usize,
+) -> Result<Option<(Write, usize)>, Refusal>
     requires { SpanWithin text.now part × ReadingsFit text.now readings }
     ensures { NextIs text.now readings (spanned text.now part) at result }
 {
@@ -370,9 +341,9 @@ fn next_write(text: &[u8], readings: Readings, part: Span, at: usize) -> Next
         Readings::Numbers(width) => next_number(text, width, part, at),
         Readings::Once(reading) => {
             if 0 < at {
-                return Next::End;
+                return Ok(None);
             }
-            next_of(reading, 1)
+            Ok(Some((reading?, 1)))
         }
     }
 }
@@ -388,7 +359,7 @@ pub fn data_line(
     line: u32,
     source: Source,
     part: Span,
-) -> DataStep
+) -> Result<DataCount, Refusal>
     requires { DataReady text.now data_bytes.old label_words.old room st × LineIn text.now line
         × SpanWithin text.now part × SourceFits source }
     ensures { DataSteps text.now data_bytes label_words room st result
@@ -397,25 +368,9 @@ pub fn data_line(
     let readings = readings_of(text, source, part);
     let mut now = st;
     let mut at = 0;
-    loop {
-        match next_write(text, readings, part, at) {
-            Next::As(write, after) => {
-                match data_write(text, data_bytes, label_words, room, now, line, write) {
-                    DataStep::Now(next) => {
-                        now = next;
-                        at = after;
-                    }
-                    DataStep::Stop(n) => {
-                        return DataStep::Stop(n);
-                    }
-                }
-            }
-            Next::Refused(n) => {
-                return DataStep::Stop(n);
-            }
-            Next::End => {
-                return DataStep::Now(now);
-            }
-        }
+    while let Some((write, after)) = next_write(text, readings, part, at)? {
+        now = data_write(text, data_bytes, label_words, room, now, line, write)?;
+        at = after;
     }
+    Ok(now)
 }

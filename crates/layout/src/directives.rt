@@ -1,12 +1,13 @@
 // Directives: the table of their spellings, and zeros and alignments.
+ghost use Rattle.layout.specs.Code.Numbers.{numbered};
 ghost use Rattle.std.specs.Prelude.{◌≡◌, ◌≤◌, length};
 ghost use Rattle.numbers.specs.Numbers.{imm_of};
 ghost use Rattle.layout.specs.Directives.{directives, row_in, aligned, place_after, reservation};
-ghost use Rattle.layout.specs.Code.Rows.{DirectiveNames, directive_number, row_code, SpelledWithin, reserved_of, Small, ReservedSmall};
+ghost use Rattle.layout.specs.Code.Rows.{DirectiveNames, directive_number, row_code, SpelledWithin, Small, ReservedSmall};
 
+use crate::refusal::Refusal;
 use numbers::imm::parse_imm;
-use numbers::ints::Imm;
-use numbers::table::{Found, ROW, SLOTS, prefix_in};
+use numbers::table::{ROW, SLOTS, prefix_in};
 use numbers::text::first_is;
 
 // What a number takes in the data: 1, 2, 4 or 8 bytes.
@@ -56,12 +57,6 @@ pub struct Spelling {
     pub directive: Directive,
     pub len: usize,
     pub in_data: bool,
-}
-
-#[derive(Clone, Copy)]
-pub enum Spelled {
-    As(Spelling),
-    Nothing,
 }
 
 const COUNT: usize = 23;
@@ -129,17 +124,15 @@ fn directive_numbered(kind: u8) -> Directive
 }
 
 // The directive that a statement begins with.
-pub fn directive_of(names: &Names, s: &[u8]) -> Spelled
+pub fn directive_of(names: &Names, s: &[u8]) -> Option<Spelling>
     requires { DirectiveNames names.now }
     ensures { (result ≡ row_code (row_in directives s.now)) × SpelledWithin result (length s.now) }
 {
     if !first_is(s, b'.') {
-        return Spelled::Nothing;
+        return None;
     }
-    let Found::At(at) = prefix_in(names, s) else {
-        return Spelled::Nothing;
-    };
-    Spelled::As(Spelling {
+    let at = prefix_in(names, s)?;
+    Some(Spelling {
         directive: directive_numbered(names[at + KIND]),
         len: names[at + LENGTH] as usize,
         in_data: names[at + IN_DATA] != 0,
@@ -153,32 +146,23 @@ pub enum Reservation {
     Aligns(usize),
 }
 
-// A reservation, or the refusal of its operand.
-#[derive(Clone, Copy)]
-pub enum Reserved {
-    As(Reservation),
-    Refused(u8),
-}
-
 // A directive's size or alignment.
-pub fn reservation_of(what: Reserve, s: &[u8]) -> Reserved
-    ensures { (reserved_of result ≡ reservation what (imm_of s.now)) × ReservedSmall result }
+pub fn reservation_of(what: Reserve, s: &[u8]) -> Result<Reservation, Refusal>
+    ensures { (numbered result ≡ reservation what (imm_of s.now)) × ReservedSmall result }
 {
-    let Imm::Value(v) = parse_imm(s) else {
-        return Reserved::Refused(6);
-    };
+    let v = parse_imm(s).ok_or(Refusal::InvalidNumber)?;
     match what {
         Reserve::Space => {
             if v < 0 {
-                return Reserved::Refused(7);
+                return Err(Refusal::NumberOutOfRange);
             }
-            Reserved::As(Reservation::Zeros(v as usize))
+            Ok(Reservation::Zeros(v as usize))
         }
         Reserve::Align => {
             if v < 1 {
-                return Reserved::Refused(7);
+                return Err(Refusal::NumberOutOfRange);
             }
-            Reserved::As(Reservation::Aligns(v as usize))
+            Ok(Reservation::Aligns(v as usize))
         }
     }
 }

@@ -1,47 +1,43 @@
 // Items to words: what an item emits, into the part of the words that it is lent.
+ghost use Rattle.layout.specs.Code.Numbers.{numbered};
 ghost use Rattle.std.specs.Prelude.{◌≡◌, [], ◌∷◌, ◌≤◌, length};
-ghost use Rattle.std.proofs.Math.Option.{Option, some};
-ghost use Rattle.numbers.specs.Results.{value};
+ghost use Rattle.std.specs.Prelude.{Option, Some};
+ghost use Rattle.std.specs.Prelude.{Ok};
 ghost use Rattle.numbers.specs.Code.Spans.{spanned};
 ghost use Rattle.encoder.specs.Encoding.{encoded};
-ghost use Rattle.encoder.specs.Code.Slots.{longest, instructions_in, Puts};
+ghost use Rattle.encoder.specs.Code.Words.{Puts};
 ghost use Rattle.layout.specs.declared.pseudo.Pseudo as code;
 ghost use Rattle.layout.specs.Pseudos.{item_kind, pseudo_words, reserved_words};
-ghost use Rattle.layout.specs.Code.Steps.{Some};
+ghost use Rattle.layout.specs.Code.Steps.{Exists};
 ghost use Rattle.layout.specs.Code.Kinds.{kind_item, kind_source};
 ghost use Rattle.layout.specs.Code.Names.{NamesReady, NamesKnown};
-ghost use Rattle.layout.specs.Code.Stands.{count_of};
 ghost use Rattle.layout.specs.Code.Expands.{emission_in, source_span, ItemRecordFits};
 ghost use Rattle.layout.specs.Code.Emits.{EmitReady, Emits};
 
 use crate::addresses::Starts;
-use crate::expansions::{LookedUp, build, look_up};
+use crate::expansions::{build, look_up};
 use crate::pseudo::{LineKind, Pseudo, item_kind};
 use crate::records::{ItemRecord, get_item, put_item};
-use crate::state::{Count, Total};
+use crate::refusal::{Refusal, RefusedAt};
 use crate::wanted::wanted_by;
-use encoder::sequences::{Expansion, Put, put_words};
+use encoder::sequences::{Expansion, put_words};
 use numbers::text::{Span, span_bytes};
 
 // The words of an expansion. Of a pseudo's the encoder refuses none (`emission-refused`).
-fn put_expansion(dst: &mut [u32], e: Expansion) -> Count
-    requires { (e.count ≤ longest) × (e.count ≤ length dst.old) }
-    ensures { Puts dst (count_of result) (encoded (instructions_in e)) }
+fn put_expansion(dst: &mut [u32], e: Expansion) -> Result<usize, Refusal>
+    requires { length e ≤ length dst.old }
+    ensures { Puts dst (numbered result) (encoded e) }
 {
-    match put_words(dst, e) {
-        Put::Words(n) => Count::Now(n),
-        Put::BadRegister => Count::Stop(22),
-        Put::BadField => Count::Stop(23),
-    }
+    Ok(put_words(dst, e)?)
 }
 
 // The one word of an ordinary line.
-fn put_ordinary(dst: &mut [u32]) -> Count
+fn put_ordinary(dst: &mut [u32]) -> Result<usize, Refusal>
     requires { 1 ≤ length dst.old }
-    ensures { Puts dst (count_of result) (value (0 ∷ [])) }
+    ensures { Puts dst (numbered result) (Ok (0 ∷ [])) }
 {
     dst[0] = 0;
-    Count::Now(1)
+    Ok(1)
 }
 
 // The words of a pseudo by its source.
@@ -56,13 +52,14 @@ fn emit_pseudo(
     pseudo: Pseudo,
     s: &[u8],
     dst: &mut [u32],
-) -> Count
+) -> Result<usize, Refusal>
     requires { NamesReady text.now labels.now label_index.now label_count equates.now equate_index.now equate_count
         × (pseudo_words «pseudo» s.now ≤ length dst.old) }
     ensures { NamesKnown text.now labels.now label_index.now label_count equates.now equate_index.now equate_count
-        (λ names. Puts dst (count_of result) (emission_in names (some «pseudo») s.now)) }
+        (λ names. Puts dst (numbered result) (emission_in names (Some «pseudo») s.now)) }
 {
-    match look_up(
+    let wanted = wanted_by(pseudo, s)?;
+    let arguments = look_up(
         text,
         labels,
         label_index,
@@ -71,14 +68,12 @@ fn emit_pseudo(
         equate_index,
         equate_count,
         s,
-        wanted_by(pseudo, s),
-    ) {
-        LookedUp::As(arguments) => put_expansion(dst, build(pseudo, arguments)),
-        LookedUp::Refused(number) => Count::Stop(number),
-    }
+        wanted,
+    )?;
+    put_expansion(dst, build(pseudo, arguments))
 }
 
-// The words of a line by its kind: how many they are, or a refusal's number.
+// The words of a line by its kind: how many they are, or a refusal.
 fn emit_line(
     text: &[u8],
     labels: &[u8],
@@ -89,11 +84,11 @@ fn emit_line(
     equate_count: usize,
     kind: LineKind,
     dst: &mut [u32],
-) -> Count
+) -> Result<usize, Refusal>
     requires { NamesReady text.now labels.now label_index.now label_count equates.now equate_index.now equate_count
         × (reserved_words (kind_item kind) (spanned text.now (kind_source kind)) ≤ length dst.old) }
     ensures { NamesKnown text.now labels.now label_index.now label_count equates.now equate_index.now equate_count
-        (λ names. Puts dst (count_of result) (emission_in names (kind_item kind) (spanned text.now (kind_source kind)))) }
+        (λ names. Puts dst (numbered result) (emission_in names (kind_item kind) (spanned text.now (kind_source kind)))) }
 {
     match kind {
         LineKind::Instr(_) => put_ordinary(dst),
@@ -123,12 +118,12 @@ fn emit_item(
     equate_count: usize,
     item: ItemRecord,
     dst: &mut [u32],
-) -> Count
+) -> Result<usize, Refusal>
     requires { NamesReady text.now labels.now label_index.now label_count equates.now equate_index.now equate_count
-        × Some (ItemRecordFits text.now (length dst.old) item) }
+        × Exists (ItemRecordFits text.now (length dst.old) item) }
     ensures { NamesKnown text.now labels.now label_index.now label_count equates.now equate_index.now equate_count
         (λ names. (x : Option code.Pseudo) → item.kind ≡ item_kind x
-        → Puts dst (count_of result) (emission_in names x (spanned text.now (source_span item)))) }
+        → Puts dst (numbered result) (emission_in names x (spanned text.now (source_span item)))) }
 {
     let source = Span {
         start: item.start as usize,
@@ -161,15 +156,14 @@ pub fn emit_items(
     items: &mut [u8],
     count: usize,
     words: &mut [u32],
-) -> Total
+) -> Result<usize, RefusedAt>
     requires { EmitReady text.now labels.now label_index.now label_count equates.now equate_index.now equate_count starts items.old count words.old }
     ensures { Emits text.now labels.now label_index.now label_count equates.now equate_index.now equate_count starts items count words result }
 {
     let mut at = 0;
-    let mut k = 0;
-    while k < count {
+    for k in 0..count {
         let item = get_item(items, k);
-        match emit_item(
+        let n = emit_item(
             text,
             labels,
             label_index,
@@ -179,24 +173,18 @@ pub fn emit_items(
             equate_count,
             item,
             &mut words[at..],
-        ) {
-            Count::Now(n) => {
-                let emitted = ItemRecord {
-                    address: starts.address(item.address),
-                    line: item.line,
-                    kind: item.kind,
-                    first: at as u32,
-                    start: item.start,
-                    len: item.len,
-                };
-                put_item(items, k, emitted);
-                at += n;
-                k += 1;
-            }
-            Count::Stop(n) => {
-                return Total::Refused(n, item.line);
-            }
-        }
+        )
+        .map_err(|refusal| refusal.at(item.line))?;
+        let emitted = ItemRecord {
+            address: starts.address(item.address),
+            line: item.line,
+            kind: item.kind,
+            first: at as u32,
+            start: item.start,
+            len: item.len,
+        };
+        put_item(items, k, emitted);
+        at += n;
     }
-    Total::Through(at)
+    Ok(at)
 }

@@ -3,11 +3,11 @@ ghost use Rattle.std.specs.Prelude.{◌≡◌, ◌&&◌, not, List, [], ◌+◌,
 ghost use Rattle.numbers.specs.Text.{same, one_spaced};
 ghost use Rattle.layout.specs.Limits.{equate_size, equate_limit};
 ghost use Rattle.layout.specs.Rounds.{Known, constant};
-ghost use Rattle.layout.specs.Code.Steps.{Some};
+ghost use Rattle.layout.specs.Code.Steps.{Exists};
 ghost use Rattle.layout.specs.Code.Index.{buckets, Indexed};
 ghost use Rattle.layout.specs.Records.{equate_record_at};
 ghost use Rattle.layout.specs.Code.Tables.{equate_name_at, equate_names};
-ghost use Rattle.layout.specs.Code.Names.{value_of, EquateTable};
+ghost use Rattle.layout.specs.Code.Names.{EquateTable};
 ghost use Rattle.layout.specs.Stage.{add_equate};
 ghost use Rattle.layout.specs.Code.Spans.{SpanWithin, LineIn, equate_at};
 ghost use Rattle.layout.specs.Code.Places.{PlaceFits};
@@ -17,7 +17,8 @@ use crate::index::{BUCKETS, bucket_of, insert};
 use crate::limits::Room;
 use crate::line::EquateParts;
 use crate::records::{EquateRecord, ExprRecord, get_equate, put_equate, put_expr};
-use crate::state::{Count, Place};
+use crate::refusal::Refusal;
+use crate::state::Place;
 use numbers::text::{Span, same_bytes, same_one_spaced, span_bytes};
 
 // An equate's record and its expression's. The contract alone names the text, which the parts are of.
@@ -30,14 +31,14 @@ pub fn add_equate(
     place: Place,
     line: u32,
     parts: EquateParts,
-) -> Count
+) -> Result<usize, Refusal>
     requires { EquatesReady text.now equates.old exprs.old room count × PlaceFits place
         × LineIn text.now line × SpanWithin text.now parts.name × SpanWithin text.now parts.expr }
     ensures { EquatesSteps text.now equates exprs room count result
         (add_equate room (equate_at text.now place line parts)) }
 {
     if room.equates <= count {
-        return Count::Stop(46);
+        return Err(Refusal::EquatesFull);
     }
     let name = parts.name;
     let expr = parts.expr;
@@ -56,7 +57,7 @@ pub fn add_equate(
         place: place.code(),
     };
     put_expr(exprs, count, source);
-    Count::Now(count + 1)
+    Ok(count + 1)
 }
 
 // The kth equate's name.
@@ -78,18 +79,9 @@ pub fn index_equates(text: &[u8], equates: &[u8], count: usize, index: &mut [u16
         × Indexed [] index.old }
     ensures { Indexed (equate_names text.now equates.now 0 count) index.new }
 {
-    let mut k = 0;
-    while k < count {
+    for k in 0..count {
         insert(index, k, bucket_of(equate_name(text, equates, k)));
-        k += 1;
     }
-}
-
-// An equate's value, or nothing where no equate of the name has one yet.
-#[derive(Clone, Copy)]
-pub enum Value {
-    Is(i64),
-    Nothing,
 }
 
 // Has the kth equate this name, and a value?
@@ -105,10 +97,16 @@ fn is_found(text: &[u8], equates: &[u8], k: usize, name: &[u8]) -> bool
 }
 
 // The value of a name's first equate that has one: the last that the chain of the name's bucket comes to.
-pub fn constant(text: &[u8], equates: &[u8], index: &[u16], count: usize, name: &[u8]) -> Value
-    requires { Some (EquateTable text.now equates.now index.now count) }
+pub fn constant(
+    text: &[u8],
+    equates: &[u8],
+    index: &[u16],
+    count: usize,
+    name: &[u8],
+) -> Option<i64>
+    requires { Exists (EquateTable text.now equates.now index.now count) }
     ensures { (ks : List Known) → EquateTable text.now equates.now index.now count ks
-        → value_of result ≡ constant ks name.now }
+        → result ≡ constant ks name.now }
 {
     let mut found = 0;
     let mut entry = index[bucket_of(name)] as usize;
@@ -120,9 +118,9 @@ pub fn constant(text: &[u8], equates: &[u8], index: &[u16], count: usize, name: 
         entry = index[BUCKETS + k] as usize;
     }
     if found == 0 {
-        return Value::Nothing;
+        return None;
     }
-    Value::Is(get_equate(equates, found - 1).value)
+    Some(get_equate(equates, found - 1).value)
 }
 
 // Has the kth equate an operand's name, its white-space runs made one space, and a value?
@@ -145,17 +143,15 @@ pub fn spaced_constant(
     index: &[u16],
     count: usize,
     operand: &[u8],
-) -> Value
-    requires { Some (EquateTable text.now equates.now index.now count) }
+) -> Option<i64>
+    requires { Exists (EquateTable text.now equates.now index.now count) }
     ensures { (ks : List Known) → EquateTable text.now equates.now index.now count ks
-        → value_of result ≡ constant ks (one_spaced operand.now) }
+        → result ≡ constant ks (one_spaced operand.now) }
 {
-    let mut k = 0;
-    while k < count {
+    for k in 0..count {
         if is_spaced_found(text, equates, k, operand) {
-            return Value::Is(get_equate(equates, k).value);
+            return Some(get_equate(equates, k).value);
         }
-        k += 1;
     }
-    Value::Nothing
+    None
 }

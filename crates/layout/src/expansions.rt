@@ -1,28 +1,30 @@
 // A pseudo-instruction's names looked up, and its instructions built.
+ghost use Rattle.layout.specs.Code.Numbers.{numbered};
 ghost use Rattle.std.specs.Prelude.{◌≡◌};
-ghost use Rattle.std.proofs.Math.Option.{none, some};
-ghost use Rattle.numbers.specs.Results.{value, and_then, mapped, or_refuse};
+ghost use Rattle.std.specs.Prelude.{None, Some};
+ghost use Rattle.std.specs.Prelude.{Ok};
+ghost use Rattle.numbers.specs.Results.{and_then, mapped, or_refuse};
 ghost use Rattle.numbers.specs.Text.{one_spaced};
-ghost use Rattle.encoder.specs.Code.Slots.{instructions_in};
 ghost use Rattle.layout.specs.Pseudos.{is_single};
 ghost use Rattle.layout.specs.Addresses.{label_address};
 ghost use Rattle.layout.specs.Rounds.{constant};
 ghost use Rattle.layout.specs.Expansions.{word, li_load, li_constant, built, instructions};
-ghost use Rattle.layout.specs.Code.Steps.{Some};
+ghost use Rattle.layout.specs.Code.Steps.{Exists};
 ghost use Rattle.layout.specs.Code.Tables.{LabelsIndexed};
-ghost use Rattle.layout.specs.Code.Placed.{WherePlaced, address_found};
-ghost use Rattle.layout.specs.Code.Names.{value_of, EquateTable, NamesReady, NamesKnown};
-ghost use Rattle.layout.specs.Code.Expands.{wanted_of, constant_read, arguments_of, looked_up_as, WhereKnown, looked_up_in};
+ghost use Rattle.layout.specs.Code.Placed.{WherePlaced};
+ghost use Rattle.layout.specs.Code.Names.{EquateTable, NamesReady, NamesKnown};
+ghost use Rattle.layout.specs.Code.Expands.{wanted_of, arguments_of, looked_up_as, WhereKnown, looked_up_in};
 
-use crate::addresses::{Address, label_address, spaced_address};
-use crate::equates::{Value, constant, spaced_constant};
+use crate::addresses::{label_address, spaced_address};
+use crate::equates::{constant, spaced_constant};
 use crate::pieces::word_len;
 use crate::pseudo::{Pseudo, is_single};
+use crate::refusal::Refusal;
 use crate::wanted::Wanted;
 use encoder::sequences::{
     Expansion, load_single, load_word, pop, print, print_str, push, random, read, read_byte,
 };
-use numbers::ints::{Imm, bits_of_i32, in_signed32};
+use numbers::ints::{bits_of_i32, in_signed32};
 use numbers::registers::Register;
 use numbers::text::{first_is, span_bytes};
 
@@ -33,10 +35,10 @@ fn operand_address(
     index: &[u16],
     count: usize,
     operand: &[u8],
-) -> Address
+) -> Option<u32>
     requires { LabelsIndexed text.now labels.now index.now count }
     ensures { WherePlaced text.now labels.now index.now count
-        (λ base σ. address_found result ≡ label_address base σ (one_spaced operand.now)) }
+        (λ base σ. result ≡ label_address base σ (one_spaced operand.now)) }
 {
     if word_len(operand) == operand.len() {
         return label_address(text, labels, index, count, operand);
@@ -51,9 +53,9 @@ fn operand_constant(
     index: &[u16],
     count: usize,
     operand: &[u8],
-) -> Value
-    requires { Some (EquateTable text.now equates.now index.now count) }
-    ensures { WhereKnown text.now equates.now index.now count (λ ks. value_of result ≡ constant ks (one_spaced operand.now)) }
+) -> Option<i64>
+    requires { Exists (EquateTable text.now equates.now index.now count) }
+    ensures { WhereKnown text.now equates.now index.now count (λ ks. result ≡ constant ks (one_spaced operand.now)) }
 {
     if word_len(operand) == operand.len() {
         return constant(text, equates, index, count, operand);
@@ -61,21 +63,25 @@ fn operand_constant(
     spaced_constant(text, equates, index, count, operand)
 }
 
-// The same where 32 signed bits hold it. What begins with a quote is no name.
-fn li_constant(text: &[u8], equates: &[u8], index: &[u16], count: usize, operand: &[u8]) -> Imm
-    requires { Some (EquateTable text.now equates.now index.now count) }
-    ensures { WhereKnown text.now equates.now index.now count (λ ks. constant_read result ≡ li_constant (constant ks) (one_spaced operand.now)) }
+// The same where 32 signed bits hold it, or 19. What begins with a quote is no name.
+fn li_constant(
+    text: &[u8],
+    equates: &[u8],
+    index: &[u16],
+    count: usize,
+    operand: &[u8],
+) -> Result<i32, Refusal>
+    requires { Exists (EquateTable text.now equates.now index.now count) }
+    ensures { WhereKnown text.now equates.now index.now count (λ ks. numbered result ≡ li_constant (constant ks) (one_spaced operand.now)) }
 {
     if first_is(operand, b'\'') {
-        return Imm::Invalid;
+        return Err(Refusal::UnknownConstant);
     }
-    let Value::Is(v) = operand_constant(text, equates, index, count, operand) else {
-        return Imm::Invalid;
-    };
+    let v = operand_constant(text, equates, index, count, operand).ok_or(Refusal::UnknownConstant)?;
     if in_signed32(v) {
-        return Imm::Value(v as i32);
+        return Ok(v as i32);
     }
-    Imm::Invalid
+    Err(Refusal::UnknownConstant)
 }
 
 // What the instructions are made of: a register, x0 where the operands name none, and 32 bits, those of an address or of a
@@ -86,18 +92,11 @@ pub enum Arguments {
     Single(Register, i32),
 }
 
-// What a pseudo's operands come to, or a refusal's number.
-#[derive(Clone, Copy)]
-pub enum LookedUp {
-    As(Arguments),
-    Refused(u8),
-}
-
 // A number: by a single addi where that holds it, else by its 32 bits.
 fn number_arguments(rd: Register, v: i32) -> Arguments
-    ensures { arguments_of result ≡ li_load (is_single (some v)) rd.0 v }
+    ensures { arguments_of result ≡ li_load (is_single (Some v)) rd.0 v }
 {
-    if is_single(Imm::Value(v)) {
+    if is_single(Some(v)) {
         return Arguments::Single(rd, v);
     }
     Arguments::Word(rd, bits_of_i32(v))
@@ -111,15 +110,13 @@ fn equate_arguments(
     count: usize,
     rd: Register,
     operand: &[u8],
-) -> LookedUp
-    requires { Some (EquateTable text.now equates.now index.now count) }
+) -> Result<Arguments, Refusal>
+    requires { Exists (EquateTable text.now equates.now index.now count) }
     ensures { WhereKnown text.now equates.now index.now count
-        (λ ks. looked_up_as result ≡ mapped (li_load (is_single none) rd.0) (li_constant (constant ks) (one_spaced operand.now))) }
+        (λ ks. looked_up_as result ≡ mapped (li_load (is_single None) rd.0) (li_constant (constant ks) (one_spaced operand.now))) }
 {
-    let Imm::Value(v) = li_constant(text, equates, index, count, operand) else {
-        return LookedUp::Refused(19);
-    };
-    LookedUp::As(Arguments::Word(rd, bits_of_i32(v)))
+    let v = li_constant(text, equates, index, count, operand)?;
+    Ok(Arguments::Word(rd, bits_of_i32(v)))
 }
 
 // A label's address, or 20.
@@ -130,15 +127,13 @@ fn label_arguments(
     count: usize,
     rd: Register,
     operand: &[u8],
-) -> LookedUp
+) -> Result<Arguments, Refusal>
     requires { LabelsIndexed text.now labels.now index.now count }
     ensures { WherePlaced text.now labels.now index.now count
-        (λ base σ. looked_up_as result ≡ or_refuse 20 (label_address base σ (one_spaced operand.now)) (λ n. value (word rd.0 n))) }
+        (λ base σ. looked_up_as result ≡ or_refuse 20 (label_address base σ (one_spaced operand.now)) (λ n. Ok (word rd.0 n))) }
 {
-    let Address::At(a) = operand_address(text, labels, index, count, operand) else {
-        return LookedUp::Refused(20);
-    };
-    LookedUp::As(Arguments::Word(rd, a))
+    let a = operand_address(text, labels, index, count, operand).ok_or(Refusal::UnknownLabel)?;
+    Ok(Arguments::Word(rd, a))
 }
 
 // What a pseudo wants, its name looked up.
@@ -152,14 +147,14 @@ pub fn look_up(
     equate_count: usize,
     s: &[u8],
     wanted: Wanted,
-) -> LookedUp
+) -> Result<Arguments, Refusal>
     requires { NamesReady text.now labels.now label_index.now label_count equates.now equate_index.now equate_count }
     ensures { NamesKnown text.now labels.now label_index.now label_count equates.now equate_index.now equate_count
-        (λ names. looked_up_as result ≡ and_then (wanted_of s.now wanted) (looked_up_in names)) }
+        (λ names. looked_up_as result ≡ looked_up_in names (wanted_of s.now wanted)) }
 {
     match wanted {
-        Wanted::Register(rd) => LookedUp::As(Arguments::Word(rd, 0)),
-        Wanted::Number(rd, v) => LookedUp::As(number_arguments(rd, v)),
+        Wanted::Register(rd) => Ok(Arguments::Word(rd, 0)),
+        Wanted::Number(rd, v) => Ok(number_arguments(rd, v)),
         Wanted::Equate(rd, name) => equate_arguments(
             text,
             equates,
@@ -184,13 +179,12 @@ pub fn look_up(
             rd,
             span_bytes(s, name),
         ),
-        Wanted::Wrong => LookedUp::Refused(18),
     }
 }
 
 // The instructions of a pseudo, of a register and 32 bits.
 fn build_word(pseudo: Pseudo, rd: Register, b: u32) -> Expansion
-    ensures { instructions_in result ≡ built «pseudo» rd.0 b }
+    ensures { result ≡ built «pseudo» rd.0 b }
 {
     match pseudo {
         Pseudo::Li => load_word(rd, b),
@@ -207,7 +201,7 @@ fn build_word(pseudo: Pseudo, rd: Register, b: u32) -> Expansion
 
 // The instructions of a pseudo. Only li has a number that a single addi loads.
 pub fn build(pseudo: Pseudo, arguments: Arguments) -> Expansion
-    ensures { instructions_in result ≡ instructions «pseudo» (arguments_of arguments) }
+    ensures { result ≡ instructions «pseudo» (arguments_of arguments) }
 {
     match arguments {
         Arguments::Word(rd, b) => build_word(pseudo, rd, b),

@@ -1,15 +1,17 @@
 // The evaluation of an expression: terms with their signs, added left to right.
+ghost use Rattle.layout.specs.Code.Numbers.{numbered};
 ghost use Rattle.std.specs.Prelude.{◌≡◌, List, ℕ, pos};
 ghost use Rattle.layout.specs.Expressions.{tokens, is_unreadable, any_unreadable};
 ghost use Rattle.layout.specs.Code.Tokens.{token_of, spaced_in};
-ghost use Rattle.layout.specs.Code.Names.{value_of, look_in, NamesReady, NamesKnown};
+ghost use Rattle.layout.specs.Code.Names.{look_in, NamesReady, NamesKnown};
 ghost use Rattle.layout.specs.Code.Terms.{TermFrom, term_value, AddsTerm, JointFrom, JointAt, Evaluates, sum_on, evaluation_of};
 
-use crate::addresses::{Address, label_address};
-use crate::equates::{Value, constant};
+use crate::addresses::label_address;
+use crate::equates::constant;
 use crate::reader::token_of;
-use crate::tokens::{Sign, Token, TokenAt, sign_of, skip_blanks};
-use numbers::ints::{Checked, checked_add, checked_sign};
+use crate::refusal::Refusal;
+use crate::tokens::{Token, sign_of, skip_blanks};
+use numbers::ints::{checked_add, checked_sign};
 use numbers::text::span_bytes;
 
 // How far a sum has come: the terms before a place are added. At place 0 a term is to come, behind a term an operator or the end.
@@ -19,25 +21,17 @@ pub struct Partial {
     pub at: usize,
 }
 
-// What an evaluation comes to: a value; while a name has none, the sum before that name's term; or a refusal's number.
+// What an evaluation comes to: a value, or while a name has none the sum before that name's term.
 #[derive(Clone, Copy)]
 pub enum Evaluated {
     Value(i64),
     Waits(Partial),
-    Refused(u8),
 }
 
 fn is_unreadable(token: Token) -> bool
     ensures { (s : List ℕ) → result ≡ is_unreadable (token_of s token) }
 {
-    match token {
-        Token::Plus => false,
-        Token::Minus => false,
-        Token::Dot => false,
-        Token::Number(_) => false,
-        Token::Name(_) => false,
-        Token::Unreadable => true,
-    }
+    matches!(token, Token::Unreadable)
 }
 
 // Is one of the tokens of a text unreadable?
@@ -45,55 +39,36 @@ pub fn any_unreadable(s: &[u8], one_space: bool) -> bool
     ensures { result ≡ any_unreadable (tokens (spaced_in one_space s.now)) }
 {
     let mut at = 0;
-    loop {
-        let TokenAt::At(token, after) = token_of(s, at, one_space) else {
-            return false;
-        };
+    while let Some((token, after)) = token_of(s, at, one_space) {
         if is_unreadable(token) {
             return true;
         }
         at = after;
     }
-}
-
-// A term: whether its own minus signs are odd in number, its token, and the place after it.
-#[derive(Clone, Copy)]
-enum Term {
-    Found(bool, Token, usize),
-    Missing,
+    false
 }
 
 // The signs from a place on, and the term behind them.
-fn signed_term(s: &[u8], from: usize, one_space: bool) -> Term
+fn signed_term(s: &[u8], from: usize, one_space: bool) -> Option<(bool, Token, usize)>
     ensures { TermFrom one_space s.now from result }
 {
     let mut at = from;
     let mut own = false;
     loop {
-        let TokenAt::At(token, after) = token_of(s, at, one_space) else {
-            return Term::Missing;
-        };
+        let (token, after) = token_of(s, at, one_space)?;
         match token {
-            Token::Plus => {
-                at = after;
-            }
+            Token::Plus => {}
             Token::Minus => {
                 own = !own;
-                at = after;
-            }
-            Token::Dot => {
-                return Term::Found(own, Token::Dot, after);
-            }
-            Token::Number(v) => {
-                return Term::Found(own, Token::Number(v), after);
-            }
-            Token::Name(name) => {
-                return Term::Found(own, Token::Name(name), after);
             }
             Token::Unreadable => {
-                return Term::Missing;
+                return None;
+            }
+            _ => {
+                return Some((own, token, after));
             }
         }
+        at = after;
     }
 }
 
@@ -107,18 +82,15 @@ fn name_value(
     equate_index: &[u16],
     equate_count: usize,
     name: &[u8],
-) -> Value
+) -> Option<i64>
     requires { NamesReady text.now labels.now label_index.now label_count equates.now equate_index.now equate_count }
     ensures { NamesKnown text.now labels.now label_index.now label_count equates.now equate_index.now equate_count
-        (λ names. value_of result ≡ look_in names name.now) }
+        (λ names. result ≡ look_in names name.now) }
 {
-    match constant(text, equates, equate_index, equate_count, name) {
-        Value::Is(v) => Value::Is(v),
-        Value::Nothing => match label_address(text, labels, label_index, label_count, name) {
-            Address::At(a) => Value::Is(a as i64),
-            Address::Nothing => Value::Nothing,
-        },
+    if let Some(v) = constant(text, equates, equate_index, equate_count, name) {
+        return Some(v);
     }
+    label_address(text, labels, label_index, label_count, name).map(i64::from)
 }
 
 // A term's value. `here` is `.`, the address of the equate's line.
@@ -133,14 +105,14 @@ fn term_value(
     s: &[u8],
     here: u32,
     token: Token,
-) -> Value
+) -> Option<i64>
     requires { NamesReady text.now labels.now label_index.now label_count equates.now equate_index.now equate_count }
     ensures { NamesKnown text.now labels.now label_index.now label_count equates.now equate_index.now equate_count
-        (λ names. value_of result ≡ term_value (look_in names) (pos here) (token_of s.now token)) }
+        (λ names. result ≡ term_value (look_in names) (pos here) (token_of s.now token)) }
 {
     match token {
-        Token::Dot => Value::Is(here as i64),
-        Token::Number(v) => Value::Is(v),
+        Token::Dot => Some(here as i64),
+        Token::Number(v) => Some(v),
         Token::Name(name) => name_value(
             text,
             labels,
@@ -151,53 +123,39 @@ fn term_value(
             equate_count,
             span_bytes(s, name),
         ),
-        Token::Plus => Value::Nothing,
-        Token::Minus => Value::Nothing,
-        Token::Unreadable => Value::Nothing,
+        Token::Plus => None,
+        Token::Minus => None,
+        Token::Unreadable => None,
     }
 }
 
 // The sum with one term more: 24's three conditions in their order.
-fn add_term(sum: i64, joining: bool, own: bool, v: i64) -> Checked
+fn add_term(sum: i64, joining: bool, own: bool, v: i64) -> Option<i64>
     ensures { AddsTerm sum joining own v result }
 {
-    let Checked::Fits(p) = checked_sign(own, v) else {
-        return Checked::Beyond;
-    };
-    let Checked::Fits(q) = checked_sign(joining, p) else {
-        return Checked::Beyond;
-    };
+    let p = checked_sign(own, v)?;
+    let q = checked_sign(joining, p)?;
     checked_add(sum, q)
 }
 
-// What joins the next term: an operator, whether it is a minus, and the place after it; the end; or neither.
-#[derive(Clone, Copy)]
-enum Joint {
-    Operator(bool, usize),
-    End,
-    Malformed,
-}
-
-// What stands behind a term.
-fn operator_at(s: &[u8], at: usize, one_space: bool) -> Joint
-    ensures { JointFrom one_space s.now at result }
+// What stands behind a term: an operator, whether it is a minus, and the place after it, or the end.
+fn operator_at(s: &[u8], at: usize, one_space: bool) -> Result<Option<(bool, usize)>, Refusal>
+    ensures { JointFrom one_space s.now at (numbered result) }
 {
     let i = skip_blanks(s, at, one_space);
     if s.len() <= i {
-        return Joint::End;
+        return Ok(None);
     }
-    let Sign::Is(minus) = sign_of(s[i]) else {
-        return Joint::Malformed;
-    };
-    Joint::Operator(minus, i + 1)
+    let minus = sign_of(s[i]).ok_or(Refusal::MalformedExpression)?;
+    Ok(Some((minus, i + 1)))
 }
 
 // The same where a sum goes on: the first term is joined as if by a `+` before it.
-fn joint_at(s: &[u8], at: usize, one_space: bool) -> Joint
-    ensures { JointAt one_space s.now at result }
+fn joint_at(s: &[u8], at: usize, one_space: bool) -> Result<Option<(bool, usize)>, Refusal>
+    ensures { JointAt one_space s.now at (numbered result) }
 {
     if at == 0 {
-        return Joint::Operator(false, 0);
+        return Ok(Some((false, 0)));
     }
     operator_at(s, at, one_space)
 }
@@ -215,47 +173,33 @@ pub fn sum_terms(
     one_space: bool,
     here: u32,
     from: Partial,
-) -> Evaluated
+) -> Result<Evaluated, Refusal>
     requires { NamesReady text.now labels.now label_index.now label_count equates.now equate_index.now equate_count }
     ensures { NamesKnown text.now labels.now label_index.now label_count equates.now equate_index.now equate_count
-        (λ names. Evaluates (look_in names) one_space s.now (pos here) (sum_on one_space s.now (pos here) from) result) }
+        (λ names. Evaluates (look_in names) one_space s.now (pos here) (sum_on one_space s.now (pos here) from) (numbered result)) }
 {
     let mut sum = from.sum;
     let mut at = from.at;
-    loop {
-        match joint_at(s, at, one_space) {
-            Joint::Operator(joining, k) => {
-                let Term::Found(own, token, after) = signed_term(s, k, one_space) else {
-                    return Evaluated::Refused(16);
-                };
-                let Value::Is(v) = term_value(
-                    text,
-                    labels,
-                    label_index,
-                    label_count,
-                    equates,
-                    equate_index,
-                    equate_count,
-                    s,
-                    here,
-                    token,
-                ) else {
-                    return Evaluated::Waits(Partial { sum, at });
-                };
-                let Checked::Fits(next) = add_term(sum, joining, own, v) else {
-                    return Evaluated::Refused(24);
-                };
-                sum = next;
-                at = after;
-            }
-            Joint::End => {
-                return Evaluated::Value(sum);
-            }
-            Joint::Malformed => {
-                return Evaluated::Refused(16);
-            }
-        }
+    while let Some((joining, k)) = joint_at(s, at, one_space)? {
+        let (own, token, after) = signed_term(s, k, one_space).ok_or(Refusal::MalformedExpression)?;
+        let Some(v) = term_value(
+            text,
+            labels,
+            label_index,
+            label_count,
+            equates,
+            equate_index,
+            equate_count,
+            s,
+            here,
+            token,
+        ) else {
+            return Ok(Evaluated::Waits(Partial { sum, at }));
+        };
+        sum = add_term(sum, joining, own, v).ok_or(Refusal::ExpressionOverflow)?;
+        at = after;
     }
+    Ok(Evaluated::Value(sum))
 }
 
 // What an expression comes to against the labels and the equates that are found. Unreadable tokens come first; where the sum has a value, it has
@@ -271,10 +215,10 @@ pub fn eval_expr(
     s: &[u8],
     one_space: bool,
     here: u32,
-) -> Evaluated
+) -> Result<Evaluated, Refusal>
     requires { NamesReady text.now labels.now label_index.now label_count equates.now equate_index.now equate_count }
     ensures { NamesKnown text.now labels.now label_index.now label_count equates.now equate_index.now equate_count
-        (λ names. Evaluates (look_in names) one_space s.now (pos here) (evaluation_of one_space s.now (pos here)) result) }
+        (λ names. Evaluates (look_in names) one_space s.now (pos here) (evaluation_of one_space s.now (pos here)) (numbered result)) }
 {
     let answer = sum_terms(
         text,
@@ -289,11 +233,11 @@ pub fn eval_expr(
         here,
         Partial { sum: 0, at: 0 },
     );
-    if let Evaluated::Value(_) = answer {
+    if let Ok(Evaluated::Value(_)) = answer {
         return answer;
     }
     if any_unreadable(s, one_space) {
-        return Evaluated::Refused(16);
+        return Err(Refusal::MalformedExpression);
     }
     answer
 }

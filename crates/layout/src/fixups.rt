@@ -1,10 +1,10 @@
 // Label words: each gets the address of the label that it names.
 ghost use Rattle.layout.specs.Code.Placed.{FillReady, Fills};
 
-use crate::addresses::{Address, label_address};
+use crate::addresses::label_address;
 use crate::little_endian::put_u32;
 use crate::records::get_label_word;
-use crate::state::Total;
+use crate::refusal::{Refusal, RefusedAt};
 use numbers::text::{Span, span_bytes};
 
 // So many label words, in text order; the total is how many are filled.
@@ -16,23 +16,20 @@ pub fn fill_label_words(
     label_words: &[u8],
     words: usize,
     data_bytes: &mut [u8],
-) -> Total
+) -> Result<usize, RefusedAt>
     requires { FillReady text.now labels.now index.now count label_words.now words data_bytes.old }
     ensures { Fills text.now labels.now index.now count label_words.now words data_bytes result }
 {
-    let mut k = 0;
-    while k < words {
+    for k in 0..words {
         let word = get_label_word(label_words, k);
         let name = Span {
             start: word.start as usize,
             len: word.len as usize,
         };
-        let Address::At(address) = label_address(text, labels, index, count, span_bytes(text, name))
-        else {
-            return Total::Refused(13, word.line);
-        };
+        let address = label_address(text, labels, index, count, span_bytes(text, name)).ok_or(
+            Refusal::UndefinedLabelWord.at(word.line),
+        )?;
         put_u32(data_bytes, word.at as usize, address);
-        k += 1;
     }
-    Total::Through(k)
+    Ok(words)
 }

@@ -7,9 +7,10 @@ ghost use Rattle.layout.specs.Code.Spans.{SpanWithin, LineIn, piece_at};
 ghost use Rattle.layout.specs.Code.Lent.{ItemsReady, ItemsSteps};
 
 use crate::limits::Room;
-use crate::pseudo::{LineKind, Names, TextLine, kind_of};
+use crate::pseudo::{LineKind, Names, kind_of};
 use crate::records::{ItemRecord, put_item};
-use crate::state::{ItemCount, ItemStep};
+use crate::refusal::Refusal;
+use crate::state::ItemCount;
 use numbers::text::Span;
 
 // An item's record is written, and its words are reserved.
@@ -20,18 +21,18 @@ fn add_item(
     st: ItemCount,
     line: u32,
     kind: LineKind,
-) -> ItemStep
+) -> Result<ItemCount, Refusal>
     requires { ItemsReady text.now items.old room st × LineIn text.now line × SpanWithin text.now (kind_source kind) }
     ensures { ItemsSteps text.now items room st result
         (add_item room line (kind_item kind) (piece_at text.now (kind_source kind))) }
 {
     let count = st.items;
     if room.items <= count {
-        return ItemStep::Stop(48);
+        return Err(Refusal::ItemsFull);
     }
     let words = st.words + kind.words(text);
     if room.words < words {
-        return ItemStep::Stop(44);
+        return Err(Refusal::WordsFull);
     }
     let source = kind.source();
     let item = ItemRecord {
@@ -43,7 +44,7 @@ fn add_item(
         len: source.len as u32,
     };
     put_item(items, count, item);
-    ItemStep::Now(ItemCount {
+    Ok(ItemCount {
         items: count + 1,
         words,
     })
@@ -58,14 +59,11 @@ pub fn text_line(
     st: ItemCount,
     line: u32,
     source: Span,
-) -> ItemStep
+) -> Result<ItemCount, Refusal>
     requires { ItemsReady text.now items.old room st × LineIn text.now line × SpanWithin text.now source
         × PseudoNames names.now }
     ensures { ItemsSteps text.now items room st result
         (text_line room line (piece_at text.now source) (item_of (spanned text.now source))) }
 {
-    match kind_of(names, text, source) {
-        TextLine::Item(kind) => add_item(text, items, room, st, line, kind),
-        TextLine::Unsupported => ItemStep::Stop(21),
-    }
+    add_item(text, items, room, st, line, kind_of(names, text, source)?)
 }

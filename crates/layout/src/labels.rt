@@ -11,17 +11,10 @@ ghost use Rattle.layout.specs.Code.Lent.{LabelsReady, LabelsSteps};
 
 use crate::index::{BUCKETS, bucket_of, insert};
 use crate::limits::Room;
-use crate::line::LabelPart;
 use crate::records::{LabelRecord, get_label, put_label};
-use crate::state::{Count, Place};
+use crate::refusal::Refusal;
+use crate::state::Place;
 use numbers::text::{Span, same_bytes, same_one_spaced, span_bytes};
-
-// Where a label's record stands among the others, or nowhere.
-#[derive(Clone, Copy)]
-pub enum Lookup {
-    At(usize),
-    Nothing,
-}
 
 // The kth label's name.
 fn label_name<'a>(text: &'a [u8], labels: &[u8], k: usize) -> &'a [u8]
@@ -52,7 +45,7 @@ fn find_in(
     count: usize,
     name: &[u8],
     bucket: usize,
-) -> Lookup
+) -> Option<usize>
     requires { LabelsIndexed text.now labels.now index.now count × (bucket ≡ bucket_of name.now) }
     ensures { LooksUp text.now labels.now count name.now result }
 {
@@ -60,15 +53,21 @@ fn find_in(
     while 0 < entry {
         let k = entry - 1;
         if is_named(text, labels, k, name) {
-            return Lookup::At(k);
+            return Some(k);
         }
         entry = index[BUCKETS + k] as usize;
     }
-    Lookup::Nothing
+    None
 }
 
 // The one of so many records that has this name.
-pub fn find_label(text: &[u8], labels: &[u8], index: &[u16], count: usize, name: &[u8]) -> Lookup
+pub fn find_label(
+    text: &[u8],
+    labels: &[u8],
+    index: &[u16],
+    count: usize,
+    name: &[u8],
+) -> Option<usize>
     requires { LabelsIndexed text.now labels.now index.now count }
     ensures { LooksUp text.now labels.now count name.now result }
 {
@@ -77,18 +76,16 @@ pub fn find_label(text: &[u8], labels: &[u8], index: &[u16], count: usize, name:
 
 // The one of so many records whose name an operand is, its white-space runs made one space. Few operands have white space: the records are searched in
 // order, and nothing is copied.
-pub fn find_spaced(text: &[u8], labels: &[u8], count: usize, operand: &[u8]) -> Lookup
+pub fn find_spaced(text: &[u8], labels: &[u8], count: usize, operand: &[u8]) -> Option<usize>
     requires { count * label_size ≤ length labels.now }
     ensures { LooksUp text.now labels.now count (one_spaced operand.now) result }
 {
-    let mut k = 0;
-    while k < count {
+    for k in 0..count {
         if same_one_spaced(operand, label_name(text, labels, k)) {
-            return Lookup::At(k);
+            return Some(k);
         }
-        k += 1;
     }
-    Lookup::Nothing
+    None
 }
 
 // A label, with its place for its address.
@@ -101,7 +98,7 @@ fn add_label(
     place: Place,
     line: u32,
     name: Span,
-) -> Count
+) -> Result<usize, Refusal>
     requires { LabelsReady text.now labels.old index.old room count × PlaceFits place × LineIn text.now line
         × SpanWithin text.now name }
     ensures { LabelsSteps text.now labels index room count result
@@ -116,17 +113,17 @@ fn add_label(
     let bytes = span_bytes(text, name);
     let bucket = bucket_of(bytes);
     match find_in(text, labels, index, count, bytes, bucket) {
-        Lookup::At(k) => {
+        Some(k) => {
             put_label(labels, k, label);
-            Count::Now(count)
+            Ok(count)
         }
-        Lookup::Nothing => {
+        None => {
             if room.labels <= count {
-                return Count::Stop(45);
+                return Err(Refusal::LabelsFull);
             }
             put_label(labels, count, label);
             insert(index, count, bucket);
-            Count::Now(count + 1)
+            Ok(count + 1)
         }
     }
 }
@@ -140,15 +137,15 @@ pub fn label_step(
     count: usize,
     place: Place,
     line: u32,
-    label: LabelPart,
-) -> Count
+    label: Option<Span>,
+) -> Result<usize, Refusal>
     requires { LabelsReady text.now labels.old index.old room count × PlaceFits place × LineIn text.now line
         × LabelWithin text.now label }
     ensures { LabelsSteps text.now labels index room count result
         (label_step room place line (label_part_at text.now label)) }
 {
     match label {
-        LabelPart::Named(name) => add_label(text, labels, index, room, count, place, line, name),
-        LabelPart::Unnamed => Count::Now(count),
+        Some(name) => add_label(text, labels, index, room, count, place, line, name),
+        None => Ok(count),
     }
 }

@@ -22,6 +22,7 @@ mod pieces;
 mod pseudo;
 mod reader;
 mod records;
+pub mod refusal;
 mod rounds;
 mod scan;
 mod stage;

@@ -1,7 +1,8 @@
 // What a line says, read in a section: its label; a section, a symbol, an ignored directive, an equate, or what the
 // section's own rule takes.
+ghost use Rattle.layout.specs.Code.Numbers.{numbered};
 ghost use Rattle.std.specs.Prelude.{◌≡◌, ◌≤◌, ◌<◌, length};
-ghost use Rattle.numbers.specs.Results.{value};
+ghost use Rattle.std.specs.Prelude.{Ok};
 ghost use Rattle.numbers.specs.Text.{byte, index_of};
 ghost use Rattle.numbers.specs.Code.Spans.{spanned};
 ghost use Rattle.layout.specs.declared.line.Statement.TheVariants as kind;
@@ -12,13 +13,12 @@ ghost use Rattle.layout.specs.Statements.{stores, own, ends_section_name, sectio
 ghost use Rattle.layout.specs.Statements.{equate_of, equ_of, other_in, assignment_of, reserves_in, stores_in, directive_in};
 ghost use Rattle.layout.specs.Statements.{unlabelled_of, line_of};
 ghost use Rattle.layout.specs.Code.Rows.{DirectiveNames};
-ghost use Rattle.layout.specs.Code.Spans.{span_of, piece_at, statement_code, line_code};
+ghost use Rattle.layout.specs.Code.Spans.{span_of, piece_at, statement_code, LineStands};
 ghost use Rattle.layout.specs.Code.Cuts.{is_mark, cut_line, LineCut, NoSignBefore, is_string_row, is_bare, Parted, Follows, says_in};
 
-use crate::directives::{
-    Directive, Names, Reserve, Source, Spelled, Spelling, Store, directive_of,
-};
+use crate::directives::{Directive, Names, Reserve, Source, Spelling, Store, directive_of};
 use crate::pieces::{part_from, part_to, trim_from, trim_to, word_len};
+use crate::refusal::Refusal;
 use crate::scan::Cut;
 use crate::state::Section;
 use numbers::text::{
@@ -42,56 +42,48 @@ pub enum OwnStatement {
     ReservesBss(Reserve, Span),
 }
 
-// What a statement says: nothing, another section, an equate, what the section's own rule takes, or a refusal.
+// What a statement says: nothing, another section, an equate, or what the section's own rule takes.
 #[derive(Clone, Copy)]
 pub enum Statement {
     Nothing,
     Enters(Section),
     Equate(EquateParts),
     Own(OwnStatement),
-    Refused(u8),
-}
-
-// A line's label, whose name may be empty; Unnamed is a line without one.
-#[derive(Clone, Copy)]
-pub enum LabelPart {
-    Named(Span),
-    Unnamed,
 }
 
 #[derive(Clone, Copy)]
 pub struct Line {
-    pub label: LabelPart,
-    pub says: Statement,
+    pub label: Option<Span>,
+    pub says: Result<Statement, Refusal>,
 }
 
 // A section by its name without the dot.
-fn section_named(name: &[u8]) -> Statement
-    ensures { result ≡ statement_code (section_named name.now) }
+fn section_named(name: &[u8]) -> Result<Statement, Refusal>
+    ensures { numbered result ≡ statement_code (section_named name.now) }
 {
     if same_bytes(b"text", name) {
-        return Statement::Enters(Section::Text);
+        return Ok(Statement::Enters(Section::Text));
     }
     if same_bytes(b"data", name)
         | (same_bytes(b"rodata", name)
             | (same_bytes(b"sdata", name) | same_bytes(b"srodata", name)))
     {
-        return Statement::Enters(Section::Data);
+        return Ok(Statement::Enters(Section::Data));
     }
     if same_bytes(b"bss", name) | same_bytes(b"sbss", name) {
-        return Statement::Enters(Section::Bss);
+        return Ok(Statement::Enters(Section::Bss));
     }
-    Statement::Refused(3)
+    Err(Refusal::UnknownSection)
 }
 
-fn section_of(name: &[u8]) -> Statement
-    ensures { result ≡ statement_code (section_of name.now) }
+fn section_of(name: &[u8]) -> Result<Statement, Refusal>
+    ensures { numbered result ≡ statement_code (section_of name.now) }
 {
     if name.len() == 0 {
-        return Statement::Refused(2);
+        return Err(Refusal::MissingSectionName);
     }
     if same_bytes(name, b".note.GNU-stack") {
-        return Statement::Nothing;
+        return Ok(Statement::Nothing);
     }
     if first_is(name, b'.') {
         return section_named(&name[1..]);
@@ -103,15 +95,12 @@ fn section_of(name: &[u8]) -> Statement
 fn section_name_len(s: &[u8]) -> usize
     ensures { result ≡ count_before ends_section_name s.now }
 {
-    let mut i = 0;
-    while i < s.len() {
-        let b = s[i];
+    for (i, &b) in s.iter().enumerate() {
         if is_space(b) | (b == b',') {
             return i;
         }
-        i += 1;
     }
-    i
+    s.len()
 }
 
 fn is_section_line(s: &[u8]) -> bool
@@ -124,8 +113,8 @@ fn is_section_line(s: &[u8]) -> bool
         | starts_with(s, b".section")
 }
 
-fn section_line(s: &[u8]) -> Statement
-    ensures { result ≡ statement_code (section_line s.now) }
+fn section_line(s: &[u8]) -> Result<Statement, Refusal>
+    ensures { numbered result ≡ statement_code (section_line s.now) }
 {
     if starts_with(s, b".section") {
         let rest = trim(&s[8..]);
@@ -136,32 +125,32 @@ fn section_line(s: &[u8]) -> Statement
 }
 
 // A symbol is needed after `.globl`; it means nothing here.
-fn symbol(rest: &[u8]) -> Statement
-    ensures { result ≡ statement_code (symbol_after rest.now) }
+fn symbol(rest: &[u8]) -> Result<Statement, Refusal>
+    ensures { numbered result ≡ statement_code (symbol_after rest.now) }
 {
     if trim(rest).len() == 0 {
-        return Statement::Refused(4);
+        return Err(Refusal::MissingSymbol);
     }
-    Statement::Nothing
+    Ok(Statement::Nothing)
 }
 
-fn equate_of(name: Span, expr: Span, one_space: bool) -> Statement
+fn equate_of(name: Span, expr: Span, one_space: bool) -> Result<Statement, Refusal>
     ensures { (n p : Piece) → name ≡ span_of n → expr ≡ span_of p →
-        result ≡ statement_code (equate_of n (record { source = p; one_space = one_space })) }
+        numbered result ≡ statement_code (equate_of n (record { source = p; one_space = one_space })) }
 {
     if (name.len == 0) | (expr.len == 0) {
-        return Statement::Refused(5);
+        return Err(Refusal::MalformedEquate);
     }
-    Statement::Equate(EquateParts {
+    Ok(Statement::Equate(EquateParts {
         name,
         expr,
         one_space,
-    })
+    }))
 }
 
 // What stands after `.equ` or `.set`.
-fn equ_of(text: &[u8], part: Span) -> Statement
-    ensures { result ≡ statement_code (equ_of (piece_at text.now part)) }
+fn equ_of(text: &[u8], part: Span) -> Result<Statement, Refusal>
+    ensures { numbered result ≡ statement_code (equ_of (piece_at text.now part)) }
 {
     let bytes = span_bytes(text, part);
     let comma = find(bytes, b',');
@@ -176,20 +165,20 @@ fn equ_of(text: &[u8], part: Span) -> Statement
 }
 
 // What is neither a directive nor an equate.
-fn other_in(section: Section, part: Span) -> Statement
-    ensures { (p : Piece) → part ≡ span_of p → result ≡ statement_code (other_in section p) }
+fn other_in(section: Section, part: Span) -> Result<Statement, Refusal>
+    ensures { (p : Piece) → part ≡ span_of p → numbered result ≡ statement_code (other_in section p) }
 {
     match section {
-        Section::Text => Statement::Own(OwnStatement::Item(part)),
-        Section::Data => Statement::Refused(10),
-        Section::Bss => Statement::Refused(11),
+        Section::Text => Ok(Statement::Own(OwnStatement::Item(part))),
+        Section::Data => Err(Refusal::UnknownDataDirective),
+        Section::Bss => Err(Refusal::UnknownBssDirective),
     }
 }
 
 // `name = expr`, whose `=` is looked for from a byte on, or what the section's own rule takes.
-fn assignment(text: &[u8], section: Section, part: Span, from: usize) -> Statement
+fn assignment(text: &[u8], section: Section, part: Span, from: usize) -> Result<Statement, Refusal>
     requires { NoSignBefore from (spanned text.now part) }
-    ensures { result ≡ statement_code (assignment_of section (piece_at text.now part)) }
+    ensures { numbered result ≡ statement_code (assignment_of section (piece_at text.now part)) }
 {
     let bytes = span_bytes(text, part);
     let whole = part_to(text, part, bytes.len());
@@ -209,19 +198,25 @@ fn assignment(text: &[u8], section: Section, part: Span, from: usize) -> Stateme
     equate_of(name, expr, false)
 }
 
-fn reserves_in(section: Section, in_data: bool, what: Reserve, part: Span, rest: Span) -> Statement
+fn reserves_in(
+    section: Section,
+    in_data: bool,
+    what: Reserve,
+    part: Span,
+    rest: Span,
+) -> Result<Statement, Refusal>
     ensures { (p q : Piece) → part ≡ span_of p → rest ≡ span_of q →
-        result ≡ statement_code (reserves_in section in_data what p q) }
+        numbered result ≡ statement_code (reserves_in section in_data what p q) }
 {
     match section {
-        Section::Text => Statement::Own(OwnStatement::Item(part)),
+        Section::Text => Ok(Statement::Own(OwnStatement::Item(part))),
         Section::Data => {
             if !in_data {
-                return Statement::Refused(10);
+                return Err(Refusal::UnknownDataDirective);
             }
-            Statement::Own(OwnStatement::InData(Source::Reserves(what), rest))
+            Ok(Statement::Own(OwnStatement::InData(Source::Reserves(what), rest)))
         }
-        Section::Bss => Statement::Own(OwnStatement::ReservesBss(what, rest)),
+        Section::Bss => Ok(Statement::Own(OwnStatement::ReservesBss(what, rest))),
     }
 }
 
@@ -229,7 +224,7 @@ fn reserves_in(section: Section, in_data: bool, what: Reserve, part: Span, rest:
 fn stored(text: &[u8], cut: Cut, what: Store, part: Span, rest: Span) -> OwnStatement
     requires { LineCut text.now cut × (cut.part.start ≤ part.start) × (part.start ≤ rest.start) × (rest.start ≤ cut.end) }
     ensures { (q : Piece) → rest ≡ span_of q →
-        kind.Own result ≡ statement_code (says_in text.now cut part (value (own (stores what q)))) }
+        Ok (kind.Own result) ≡ statement_code (says_in text.now cut part (Ok (own (stores what q)))) }
 {
     let Store::Text(zeros) = what else {
         return OwnStatement::InData(Source::Stores(what), rest);
@@ -255,15 +250,15 @@ fn stores_in(
     what: Store,
     part: Span,
     rest: Span,
-) -> Statement
+) -> Result<Statement, Refusal>
     requires { LineCut text.now cut × (cut.part.start ≤ part.start) × (part.start ≤ rest.start) × (rest.start ≤ cut.end) }
     ensures { (p q : Piece) → part ≡ span_of p → rest ≡ span_of q →
-        result ≡ statement_code (says_in text.now cut part (stores_in section what p q)) }
+        numbered result ≡ statement_code (says_in text.now cut part (stores_in section what p q)) }
 {
     match section {
-        Section::Text => Statement::Own(OwnStatement::Item(part)),
-        Section::Data => Statement::Own(stored(text, cut, what, part, rest)),
-        Section::Bss => Statement::Refused(12),
+        Section::Text => Ok(Statement::Own(OwnStatement::Item(part))),
+        Section::Data => Ok(Statement::Own(stored(text, cut, what, part, rest))),
+        Section::Bss => Err(Refusal::StoresInBss),
     }
 }
 
@@ -274,9 +269,9 @@ fn directive_in(
     cut: Cut,
     part: Span,
     spelling: Spelling,
-) -> Statement
+) -> Result<Statement, Refusal>
     requires { LineCut text.now cut × Follows text.now cut part × (spelling.len ≤ length (spanned text.now part)) }
-    ensures { result ≡ statement_code (says_in text.now cut part (directive_in section spelling.directive spelling.in_data
+    ensures { numbered result ≡ statement_code (says_in text.now cut part (directive_in section spelling.directive spelling.in_data
         (piece_at text.now part) (from_byte spelling.len (piece_at text.now part)))) }
 {
     let bytes = span_bytes(text, part);
@@ -286,7 +281,7 @@ fn directive_in(
     let directive = spelling.directive;
     match directive {
         Directive::Symbol => symbol(&bytes[n..]),
-        Directive::Ignored => Statement::Nothing,
+        Directive::Ignored => Ok(Statement::Nothing),
         Directive::Equate => equ_of(text, trim_from(text, part, n)),
         Directive::Reserves(what) => reserves_in(section, spelling.in_data, what, whole, rest),
         Directive::Stores(what) => stores_in(text, section, cut, what, whole, rest),
@@ -301,25 +296,25 @@ fn unlabelled(
     cut: Cut,
     part: Span,
     from: usize,
-) -> Statement
+) -> Result<Statement, Refusal>
     requires { DirectiveNames names.now × LineCut text.now cut × Follows text.now cut part
         × NoSignBefore from (spanned text.now part) }
-    ensures { result ≡ statement_code (says_in text.now cut part (unlabelled_of section (piece_at text.now part))) }
+    ensures { numbered result ≡ statement_code (says_in text.now cut part (unlabelled_of section (piece_at text.now part))) }
 {
     let bytes = span_bytes(text, part);
     if bytes.len() == 0 {
-        return Statement::Nothing;
+        return Ok(Statement::Nothing);
     }
     match directive_of(names, bytes) {
-        Spelled::As(spelling) => directive_in(text, section, cut, part, spelling),
-        Spelled::Nothing => assignment(text, section, part, from),
+        Some(spelling) => directive_in(text, section, cut, part, spelling),
+        None => assignment(text, section, part, from),
     }
 }
 
 // A statement's label, what follows it, and from which byte of that on a `=` is looked for.
 #[derive(Clone, Copy)]
 struct Labelled {
-    label: LabelPart,
+    label: Option<Span>,
     rest: Span,
     from: usize,
 }
@@ -354,14 +349,14 @@ fn part_label(text: &[u8], section: Section, part: Span, mark: usize) -> Labelle
     let colon = find_from(bytes, mark, b':');
     if bytes.len() <= colon {
         return Labelled {
-            label: LabelPart::Unnamed,
+            label: None,
             rest: part,
             from: mark,
         };
     }
     if is_bare(section, bytes, colon) {
         return Labelled {
-            label: LabelPart::Unnamed,
+            label: None,
             rest: part,
             from: mark,
         };
@@ -369,7 +364,7 @@ fn part_label(text: &[u8], section: Section, part: Span, mark: usize) -> Labelle
     let name = trim_to(text, part, colon);
     let rest = trim_from(text, part, colon + 1);
     Labelled {
-        label: LabelPart::Named(name),
+        label: Some(name),
         rest,
         from: 0,
     }
@@ -378,13 +373,13 @@ fn part_label(text: &[u8], section: Section, part: Span, mark: usize) -> Labelle
 // A line as it was cut, in a section: its label and what it says.
 pub fn line_of(names: &Names, text: &[u8], section: Section, cut: Cut) -> Line
     requires { DirectiveNames names.now × LineCut text.now cut }
-    ensures { result ≡ line_code (line_of section (cut_line text.now cut)) }
+    ensures { LineStands result (line_of section (cut_line text.now cut)) }
 {
     let part = cut.part;
     let bytes = span_bytes(text, part);
     if is_section_line(bytes) {
         return Line {
-            label: LabelPart::Unnamed,
+            label: None,
             says: section_line(bytes),
         };
     }

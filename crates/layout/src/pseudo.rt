@@ -1,15 +1,16 @@
 // Pseudo-instructions: the table of their spellings, a text line's kind, and the words that it reserves.
+ghost use Rattle.layout.specs.Code.Numbers.{numbered};
 ghost use Rattle.std.specs.Prelude.{◌≡◌, ◌≤◌};
-ghost use Rattle.numbers.specs.Code.Meanings.{imm_value};
 ghost use Rattle.numbers.specs.Code.Spans.{spanned};
 ghost use Rattle.layout.specs.Pseudos.{item_of, pseudo_operands, is_single, li_words, pseudo_words, reserved_words, pseudo_kind, item_kind};
 ghost use Rattle.layout.specs.Code.Kinds.{PseudoNames, begins_as_pseudo, text_line_code, kind_item, kind_source};
 
 use crate::pieces::word_len;
+use crate::refusal::Refusal;
 use numbers::imm::parse_imm_one_spaced;
-use numbers::ints::{Imm, in_signed12};
-use numbers::operands::{Operand, item_operand_at};
-use numbers::table::{Found, ROW, SLOTS, word_in};
+use numbers::ints::in_signed12;
+use numbers::operands::item_operand_at;
+use numbers::table::{ROW, SLOTS, word_in};
 use numbers::text::{Span, first_is, span_bytes, text_before};
 
 // The nine pseudo-instructions, in the order of their item kinds 1 to 9.
@@ -31,13 +32,6 @@ pub enum Pseudo {
 pub enum LineKind {
     Instr(Span),
     Pseudo(Pseudo, Span),
-}
-
-// What a line of the text section is: an item of a kind, or one of the four other pseudo-instructions.
-#[derive(Clone, Copy)]
-pub enum TextLine {
-    Item(LineKind),
-    Unsupported,
 }
 
 const COUNT: usize = 20;
@@ -115,43 +109,40 @@ fn begins_as_pseudo(s: &[u8]) -> bool
 }
 
 // What a line is by its first word: a name is followed by a space or, if it may, ends the line.
-fn listed_kind(names: &Names, text: &[u8], source: Span) -> TextLine
+fn listed_kind(names: &Names, text: &[u8], source: Span) -> Result<LineKind, Refusal>
     requires { PseudoNames names.now }
-    ensures { result ≡ text_line_code (item_of (spanned text.now source)) source }
+    ensures { numbered result ≡ text_line_code (item_of (spanned text.now source)) source }
 {
     let s = span_bytes(text, source);
     let word = text_before(s, b' ');
-    let Found::At(at) = word_in(names, word) else {
-        return TextLine::Item(LineKind::Instr(source));
+    let Some(at) = word_in(names, word) else {
+        return Ok(LineKind::Instr(source));
     };
     if (s.len() <= word.len()) & (names[at + BARE] == 0) {
-        return TextLine::Item(LineKind::Instr(source));
+        return Ok(LineKind::Instr(source));
     }
     let kind = names[at + KIND];
     if kind == 0 {
-        return TextLine::Unsupported;
+        return Err(Refusal::Unsupported);
     }
-    TextLine::Item(LineKind::Pseudo(pseudo_numbered(kind), source))
+    Ok(LineKind::Pseudo(pseudo_numbered(kind), source))
 }
 
-pub fn kind_of(names: &Names, text: &[u8], source: Span) -> TextLine
+pub fn kind_of(names: &Names, text: &[u8], source: Span) -> Result<LineKind, Refusal>
     requires { PseudoNames names.now }
-    ensures { result ≡ text_line_code (item_of (spanned text.now source)) source }
+    ensures { numbered result ≡ text_line_code (item_of (spanned text.now source)) source }
 {
     if !begins_as_pseudo(span_bytes(text, source)) {
-        return TextLine::Item(LineKind::Instr(source));
+        return Ok(LineKind::Instr(source));
     }
     listed_kind(names, text, source)
 }
 
 // Is an li a single addi, by what its second operand reads as? Its size and its words both go by this.
-pub fn is_single(number: Imm) -> bool
-    ensures { result ≡ is_single (imm_value number) }
+pub fn is_single(number: Option<i32>) -> bool
+    ensures { result ≡ is_single number }
 {
-    match number {
-        Imm::Value(v) => in_signed12(v),
-        Imm::Invalid => false,
-    }
+    number.is_some_and(in_signed12)
 }
 
 // The words of an li: one if it has fewer than two operands or is a single addi.
@@ -160,10 +151,10 @@ pub fn li_word_count(s: &[u8]) -> usize
 {
     let first = word_len(s);
     let rest = &s[first..];
-    let Operand::At(_, next) = item_operand_at(rest, 0) else {
+    let Some((_, next)) = item_operand_at(rest, 0) else {
         return 1;
     };
-    let Operand::At(second, _) = item_operand_at(rest, next) else {
+    let Some((second, _)) = item_operand_at(rest, next) else {
         return 1;
     };
     if is_single(parse_imm_one_spaced(span_bytes(rest, second))) {

@@ -2,7 +2,7 @@
 ghost use Rattle.std.specs.Prelude.{◌≡◌};
 ghost use Rattle.layout.specs.Code.Tokens.{TokenFrom};
 
-use crate::tokens::{TokenAt, token_at};
+use crate::tokens::{Token, token_at};
 
 // What is read, from which place on, and whether with one space for each run of white space.
 #[derive(Clone, Copy)]
@@ -34,7 +34,7 @@ impl<'a> ExprReader<'a> {
         }
     }
 
-    pub fn next_token(self) -> TokenAt
+    pub fn next_token(self) -> Option<(Token, usize)>
         ensures { TokenFrom self.entry.one_space self.entry.src.now self.entry.at result }
     {
         token_at(self.src, self.at, self.one_space)
@@ -42,7 +42,7 @@ impl<'a> ExprReader<'a> {
 }
 
 // The next token from a place on, for callers that hold a slice and a place and no reader.
-pub fn token_of(s: &[u8], at: usize, one_space: bool) -> TokenAt
+pub fn token_of(s: &[u8], at: usize, one_space: bool) -> Option<(Token, usize)>
     ensures { TokenFrom one_space s.now at result }
 {
     ExprReader::new(s, one_space).moved(at).next_token()

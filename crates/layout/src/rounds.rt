@@ -1,37 +1,35 @@
 // The equates' rounds: each takes the pending ones in text order, until none is pending or a round finds none.
+ghost use Rattle.layout.specs.Code.Numbers.{numbered};
 ghost use Rattle.std.specs.Prelude.{◌≡◌, ℕ, ◌+◌, ◌-◌, ◌*◌, ◌^◌, ◌≤◌, ◌<◌, length, eqb, List};
 ghost use Rattle.layout.specs.Bytes.{put};
 ghost use Rattle.layout.specs.Limits.{equate_size};
 ghost use Rattle.layout.specs.Records.{field_bytes, equate_fields, equate_record_at};
 ghost use Rattle.layout.specs.Rounds.{constant, is_some, first_pending, Known};
-ghost use Rattle.layout.specs.Code.Steps.{Some};
+ghost use Rattle.layout.specs.Code.Steps.{Exists};
 ghost use Rattle.layout.specs.Code.Names.{EquateTable};
 ghost use Rattle.layout.specs.Code.Resolves.{equate_in, TurnReady, TurnKnown, AgainReady, AgainKnown, TurnGives, EvaluationGives, partial_at, put_partial, ResolveReady, Resolves};
 
 use crate::addresses::{Starts, is_label};
-use crate::equates::{Value, constant, equate_name};
+use crate::equates::{constant, equate_name};
 use crate::expr::{Evaluated, Partial, eval_expr, sum_terms};
 use crate::records::{EquateRecord, get_equate, get_expr, put_equate};
-use crate::state::Total;
+use crate::refusal::{Refusal, RefusedAt};
 use numbers::ints::{bits_of_i64, i64_of_bits};
 use numbers::text::{Span, span_bytes};
 
 // An equate's turn: what it comes to, and the evaluations so far.
 #[derive(Clone, Copy)]
 pub struct Evaluation {
-    pub answer: Evaluated,
+    pub answer: Result<Evaluated, Refusal>,
     pub evaluations: usize,
 }
 
 fn is_constant(text: &[u8], equates: &[u8], index: &[u16], count: usize, name: &[u8]) -> bool
-    requires { Some (EquateTable text.now equates.now index.now count) }
+    requires { Exists (EquateTable text.now equates.now index.now count) }
     ensures { (ks : List Known) → EquateTable text.now equates.now index.now count ks
         → result ≡ is_some (constant ks name.now) }
 {
-    match constant(text, equates, index, count, name) {
-        Value::Is(_) => true,
-        Value::Nothing => false,
-    }
+    constant(text, equates, index, count, name).is_some()
 }
 
 // The kth equate against what is known: 14, 15, then its expression.
@@ -46,17 +44,17 @@ pub fn turn(
     equate_count: usize,
     exprs: &[u8],
     k: usize,
-) -> Evaluated
+) -> Result<Evaluated, Refusal>
     requires { TurnReady text.now labels.now label_index.now label_count starts equates.now equate_index.now equate_count exprs.now × (k < equate_count) }
     ensures { TurnKnown text.now labels.now label_index.now label_count starts equates.now equate_index.now equate_count exprs.now
-        (λ names. TurnGives names (equate_in names k) result) }
+        (λ names. TurnGives names (equate_in names k) (numbered result)) }
 {
     let name = equate_name(text, equates, k);
     if is_label(text, labels, label_index, label_count, name) {
-        return Evaluated::Refused(14);
+        return Err(Refusal::EquateIsLabel);
     }
     if is_constant(text, equates, equate_index, equate_count, name) {
-        return Evaluated::Refused(15);
+        return Err(Refusal::DuplicateEquate);
     }
     let expr = get_expr(exprs, k);
     let source = Span {
@@ -90,14 +88,14 @@ fn turn_again(
     exprs: &[u8],
     k: usize,
     from: Partial,
-) -> Evaluated
+) -> Result<Evaluated, Refusal>
     requires { AgainReady text.now labels.now label_index.now label_count starts equates.now equate_index.now equate_count exprs.now 2 k from × (k < equate_count) }
     ensures { AgainKnown text.now labels.now label_index.now label_count starts equates.now equate_index.now equate_count exprs.now 2 k from
-        (λ names. TurnGives names (equate_in names k) result) }
+        (λ names. TurnGives names (equate_in names k) (numbered result)) }
 {
     let name = equate_name(text, equates, k);
     if is_constant(text, equates, equate_index, equate_count, name) {
-        return Evaluated::Refused(15);
+        return Err(Refusal::DuplicateEquate);
     }
     let expr = get_expr(exprs, k);
     let source = Span {
@@ -133,10 +131,10 @@ fn turn_in(
     k: usize,
     from: Partial,
     round: u32,
-) -> Evaluated
+) -> Result<Evaluated, Refusal>
     requires { AgainReady text.now labels.now label_index.now label_count starts equates.now equate_index.now equate_count exprs.now round k from × (k < equate_count) }
     ensures { AgainKnown text.now labels.now label_index.now label_count starts equates.now equate_index.now equate_count exprs.now round k from
-        (λ names. TurnGives names (equate_in names k) result) }
+        (λ names. TurnGives names (equate_in names k) (numbered result)) }
 {
     if round == 1 {
         return turn(
@@ -261,13 +259,11 @@ fn first_pending(equates: &[u8], count: usize) -> u32
     requires { count * equate_size ≤ length equates.now }
     ensures { (t ix : List ℕ) (ks : List Known) → EquateTable t equates.now ix count ks → result ≡ first_pending ks }
 {
-    let mut i = 0;
-    while i < count {
+    for i in 0..count {
         let equate = get_equate(equates, i);
         if equate.round == 0 {
             return equate.line;
         }
-        i += 1;
     }
     0
 }
@@ -284,21 +280,17 @@ pub fn resolve(
     count: usize,
     exprs: &[u8],
     partials: &mut [u64],
-) -> Total
+) -> Result<usize, RefusedAt>
     requires { ResolveReady text.now labels.now label_index.now label_count starts equates.old equate_index.now count exprs.now partials.old }
     ensures { Resolves text.now labels.now label_index.now label_count starts equates equate_index.now count exprs.now partials result }
 {
     let mut evaluations = 0;
     let mut pending = count;
     let mut round: u32 = 0;
-    let mut refused = false;
-    let mut number: u8 = 0;
-    let mut line: u32 = 0;
-    'rounds: while 0 < pending {
+    while 0 < pending {
         round += 1;
         let before = pending;
-        let mut k = 0;
-        while k < count {
+        for k in 0..count {
             if is_pending(equates, k) {
                 let turn = evaluate(
                     text,
@@ -316,34 +308,23 @@ pub fn resolve(
                     evaluations,
                 );
                 evaluations = turn.evaluations;
-                let answer = turn.answer;
-                match answer {
-                    Evaluated::Value(v) => {
+                match turn.answer {
+                    Ok(Evaluated::Value(v)) => {
                         put_found(equates, k, v, round);
                         pending -= 1;
                     }
-                    Evaluated::Waits(from) => {
+                    Ok(Evaluated::Waits(from)) => {
                         put_partial(partials, k, from);
                     }
-                    Evaluated::Refused(n) => {
-                        refused = true;
-                        number = n;
-                        line = get_equate(equates, k).line;
-                        break 'rounds;
+                    Err(refusal) => {
+                        return Err(refusal.at(get_equate(equates, k).line));
                     }
                 }
             }
-            k += 1;
         }
         if pending == before {
-            refused = true;
-            number = 17;
-            line = first_pending(equates, count);
-            break 'rounds;
+            return Err(Refusal::UnresolvedEquate.at(first_pending(equates, count)));
         }
     }
-    if refused {
-        return Total::Refused(number, line);
-    }
-    Total::Through(evaluations)
+    Ok(evaluations)
 }

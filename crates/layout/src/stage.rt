@@ -18,19 +18,11 @@ use crate::items::text_line;
 use crate::labels::label_step;
 use crate::limits::Room;
 use crate::line::{OwnStatement, Statement, line_of};
+use crate::refusal::{Refusal, RefusedAt};
 use crate::scan::{Cut, cut_line};
-use crate::state::{
-    Count, Counters, DataStep, ItemStep, OwnCounters, OwnStep, RestCounters, RestStep, Step,
-};
+use crate::state::{Counters, OwnCounters, RestCounters};
 use crate::{directives, pseudo};
 use numbers::text::span_bytes;
-
-// What the stage comes to: where the layout is at the end, or a refusal's number and line.
-#[derive(Clone, Copy)]
-pub enum Stage {
-    Through(Counters),
-    Refused(u8, u32),
-}
 
 // The section's own rule.
 fn own_line(
@@ -43,57 +35,34 @@ fn own_line(
     st: OwnCounters,
     line: u32,
     statement: OwnStatement,
-) -> OwnStep
+) -> Result<OwnCounters, Refusal>
     requires { OwnReady text.now items.old data_bytes.old label_words.old room st × LineIn text.now line
         × OwnWithin text.now statement × PseudoNames pseudos.now }
     ensures { OwnSteps text.now items data_bytes label_words room st result
         (own_line room line (own_at text.now statement)) }
 {
-    let section = st.section;
-    let counted = st.items;
-    let stored = st.stored;
-    let bss = st.bss;
     match statement {
-        OwnStatement::Item(source) => match text_line(
-            pseudos, text, items, room, counted, line, source,
-        ) {
-            ItemStep::Now(items) => OwnStep::Now(OwnCounters {
-                section,
-                items,
-                stored,
-                bss,
-            }),
-            ItemStep::Stop(n) => OwnStep::Stop(n),
-        },
+        OwnStatement::Item(source) => {
+            let items = text_line(pseudos, text, items, room, st.items, line, source)?;
+            Ok(OwnCounters { items, ..st })
+        }
         OwnStatement::InData(source, rest) => {
-            match data_line(
+            let stored = data_line(
                 text,
                 data_bytes,
                 label_words,
                 room,
-                stored,
+                st.stored,
                 line,
                 source,
                 rest,
-            ) {
-                DataStep::Now(stored) => OwnStep::Now(OwnCounters {
-                    section,
-                    items: counted,
-                    stored,
-                    bss,
-                }),
-                DataStep::Stop(n) => OwnStep::Stop(n),
-            }
+            )?;
+            Ok(OwnCounters { stored, ..st })
         }
-        OwnStatement::ReservesBss(what, rest) => match bss_line(bss, what, span_bytes(text, rest)) {
-            Count::Now(bss) => OwnStep::Now(OwnCounters {
-                section,
-                items: counted,
-                stored,
-                bss,
-            }),
-            Count::Stop(n) => OwnStep::Stop(n),
-        },
+        OwnStatement::ReservesBss(what, rest) => {
+            let bss = bss_line(st.bss, what, span_bytes(text, rest))?;
+            Ok(OwnCounters { bss, ..st })
+        }
     }
 }
 
@@ -110,44 +79,45 @@ fn statement_step(
     st: RestCounters,
     line: u32,
     statement: Statement,
-) -> RestStep
+) -> Result<RestCounters, Refusal>
     requires { RestReady text.now equates.old exprs.old items.old data_bytes.old label_words.old room st
         × LineIn text.now line × StatementWithin text.now statement × PseudoNames pseudos.now }
     ensures { RestSteps text.now equates exprs items data_bytes label_words room st result
-        (λ σ. and_then (statement_at text.now statement) (λ s. statement_step room line s σ)) }
+        (statement_step room line (statement_at text.now statement)) }
 {
-    let count = st.equates;
-    let own = st.own;
     match statement {
-        Statement::Nothing => RestStep::Now(st),
-        Statement::Enters(section) => RestStep::Now(RestCounters {
-            equates: count,
-            own: own.entered(section),
+        Statement::Nothing => Ok(st),
+        Statement::Enters(section) => Ok(RestCounters {
+            own: st.own.entered(section),
+            ..st
         }),
         Statement::Equate(parts) => {
-            match add_equate(text, equates, exprs, room, count, own.place(), line, parts) {
-                Count::Now(equates) => RestStep::Now(RestCounters { equates, own }),
-                Count::Stop(n) => RestStep::Stop(n),
-            }
+            let equates = add_equate(
+                text,
+                equates,
+                exprs,
+                room,
+                st.equates,
+                st.own.place(),
+                line,
+                parts,
+            )?;
+            Ok(RestCounters { equates, ..st })
         }
-        Statement::Own(own_statement) => match own_line(
-            pseudos,
-            text,
-            items,
-            data_bytes,
-            label_words,
-            room,
-            own,
-            line,
-            own_statement,
-        ) {
-            OwnStep::Now(own) => RestStep::Now(RestCounters {
-                equates: count,
-                own,
-            }),
-            OwnStep::Stop(n) => RestStep::Stop(n),
-        },
-        Statement::Refused(n) => RestStep::Stop(n),
+        Statement::Own(statement) => {
+            let own = own_line(
+                pseudos,
+                text,
+                items,
+                data_bytes,
+                label_words,
+                room,
+                st.own,
+                line,
+                statement,
+            )?;
+            Ok(RestCounters { own, ..st })
+        }
     }
 }
 
@@ -167,20 +137,16 @@ fn step_line(
     room: Room,
     st: Counters,
     line: u32,
-) -> Step
+) -> Result<Counters, Refusal>
     requires { StageReady text.now labels.old index.old equates.old exprs.old items.old data_bytes.old label_words.old room st
         × LineIn text.now line × LineCut text.now cut
         × DirectiveNames directives.now × PseudoNames pseudos.now }
     ensures { StageSteps text.now labels index equates exprs items data_bytes label_words room st result
         (step_line room line (cut_line text.now cut)) }
 {
-    let rest = st.rest;
-    let own = rest.own;
-    let section = own.section;
-    let parsed = line_of(directives, text, section, cut);
-    let label = parsed.label;
-    let statement = parsed.says;
-    match label_step(
+    let own = st.rest.own;
+    let parsed = line_of(directives, text, own.section, cut);
+    let labels = label_step(
         text,
         labels,
         index,
@@ -188,29 +154,23 @@ fn step_line(
         st.labels,
         own.place(),
         line,
-        label,
-    ) {
-        Count::Now(count) => match statement_step(
-            pseudos,
-            text,
-            equates,
-            exprs,
-            items,
-            data_bytes,
-            label_words,
-            room,
-            rest,
-            line,
-            statement,
-        ) {
-            RestStep::Now(rest) => Step::Now(Counters {
-                labels: count,
-                rest,
-            }),
-            RestStep::Stop(n) => Step::Stop(n),
-        },
-        Count::Stop(n) => Step::Stop(n),
-    }
+        parsed.label,
+    )?;
+    let statement = parsed.says?;
+    let rest = statement_step(
+        pseudos,
+        text,
+        equates,
+        exprs,
+        items,
+        data_bytes,
+        label_words,
+        room,
+        st.rest,
+        line,
+        statement,
+    )?;
+    Ok(Counters { labels, rest })
 }
 
 // Every line of the text, into buffers of zeros. A line without a statement changes nothing.
@@ -224,7 +184,7 @@ pub fn line_stage(
     data_bytes: &mut [u8],
     label_words: &mut [u8],
     room: Room,
-) -> Stage
+) -> Result<Counters, RefusedAt>
     requires { (length text.now ≤ text_limit) × StageStarts text.now labels.old index.old equates.old exprs.old items.old data_bytes.old label_words.old room }
     ensures { StageGives text.now labels index equates exprs items data_bytes label_words room result
         (line_stage room 0 (line_pieces 0 (lines text.now)) start) }
@@ -238,7 +198,7 @@ pub fn line_stage(
         let cut = cut_line(text, at);
         let end = cut.end;
         if 0 < cut.part.len {
-            match step_line(
+            st = step_line(
                 &directives,
                 &pseudos,
                 text,
@@ -253,17 +213,11 @@ pub fn line_stage(
                 room,
                 st,
                 line,
-            ) {
-                Step::Now(next) => {
-                    st = next;
-                }
-                Step::Stop(n) => {
-                    return Stage::Refused(n, line);
-                }
-            }
+            )
+            .map_err(|refusal| refusal.at(line))?;
         }
         at = end + 1;
         line += 1;
     }
-    Stage::Through(st)
+    Ok(st)
 }

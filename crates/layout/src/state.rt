@@ -52,63 +52,12 @@ pub struct Counters {
     pub rest: RestCounters,
 }
 
-// What a part's step comes to: its counter after it, or a refusal's number.
-#[derive(Clone, Copy)]
-pub enum Count {
-    Now(usize),
-    Stop(u8),
-}
-
-#[derive(Clone, Copy)]
-pub enum ItemStep {
-    Now(ItemCount),
-    Stop(u8),
-}
-
-#[derive(Clone, Copy)]
-pub enum DataStep {
-    Now(DataCount),
-    Stop(u8),
-}
-
-#[derive(Clone, Copy)]
-pub enum OwnStep {
-    Now(OwnCounters),
-    Stop(u8),
-}
-
-#[derive(Clone, Copy)]
-pub enum RestStep {
-    Now(RestCounters),
-    Stop(u8),
-}
-
-#[derive(Clone, Copy)]
-pub enum Step {
-    Now(Counters),
-    Stop(u8),
-}
-
-// What a stage after the lines comes to: the total of what it counts (label words, evaluations, words), or a refusal's number and line.
-#[derive(Clone, Copy)]
-pub enum Total {
-    Through(usize),
-    Refused(u8, u32),
-}
-
 impl OwnCounters {
     // The same counts in another section.
     pub fn entered(self, section: Section) -> OwnCounters
         ensures { result ≡ entered_own section self }
     {
-        let items = self.items;
-        let stored = self.stored;
-        OwnCounters {
-            section,
-            items,
-            stored,
-            bss: self.bss,
-        }
+        OwnCounters { section, ..self }
     }
 
     // The present place.

@@ -4,8 +4,9 @@ ghost use Rattle.layout.specs.Code.Symbols.{SymbolsReady, SymbolsResolve};
 use crate::addresses::{Starts, place_labels};
 use crate::equates::index_equates;
 use crate::fixups::fill_label_words;
+use crate::refusal::RefusedAt;
 use crate::rounds::resolve;
-use crate::state::{Counters, Total};
+use crate::state::Counters;
 
 // Every label gets its address and every label word its label's; then the rounds find the equates' values. The total is of the evaluations.
 pub fn resolve_symbols(
@@ -20,7 +21,7 @@ pub fn resolve_symbols(
     partials: &mut [u64],
     data_bytes: &mut [u8],
     label_words: &[u8],
-) -> Total
+) -> Result<usize, RefusedAt>
     requires { SymbolsReady text.now base st labels.old label_index.now equates.old equate_index.old exprs.now partials.old data_bytes.old label_words.now }
     ensures { SymbolsResolve text.now base st labels label_index.now equates equate_index exprs.now partials data_bytes label_words.now result }
 {
@@ -31,7 +32,7 @@ pub fn resolve_symbols(
     let count = rest.equates;
     let starts = Starts::of(base, stored.bytes);
     place_labels(labels, label_count, starts);
-    match fill_label_words(
+    fill_label_words(
         text,
         labels,
         label_index,
@@ -39,22 +40,18 @@ pub fn resolve_symbols(
         label_words,
         stored.label_words,
         data_bytes,
-    ) {
-        Total::Through(_) => {
-            index_equates(text, equates, count, equate_index);
-            resolve(
-                text,
-                labels,
-                label_index,
-                label_count,
-                starts,
-                equates,
-                equate_index,
-                count,
-                exprs,
-                partials,
-            )
-        }
-        Total::Refused(n, line) => Total::Refused(n, line),
-    }
+    )?;
+    index_equates(text, equates, count, equate_index);
+    resolve(
+        text,
+        labels,
+        label_index,
+        label_count,
+        starts,
+        equates,
+        equate_index,
+        count,
+        exprs,
+        partials,
+    )
 }

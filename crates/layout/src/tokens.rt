@@ -2,12 +2,10 @@
 ghost use Rattle.std.specs.Prelude.{◌≡◌, ◌+◌, ◌<◌, length, drop, get_or};
 ghost use Rattle.numbers.specs.Text.{leading};
 ghost use Rattle.numbers.specs.Numbers.{number_of};
-ghost use Rattle.layout.specs.declared.tokens.Sign.TheVariants as sign;
 ghost use Rattle.layout.specs.Expressions.{is_blank, is_name_byte, is_number_byte};
 ghost use Rattle.layout.specs.Code.Tokens.{numeral, sign_of, blank_in, TokenHere, TokenFrom};
 
 use numbers::imm::parse_signed_prefixed_i64;
-use numbers::ints::Imm64;
 use numbers::text::{Span, is_digit, is_space};
 
 #[derive(Clone, Copy)]
@@ -18,20 +16,6 @@ pub enum Token {
     Number(i64),
     Name(Span),
     Unreadable,
-}
-
-// The token that was found and the place after it, to go on from, or the end of the text.
-#[derive(Clone, Copy)]
-pub enum TokenAt {
-    At(Token, usize),
-    End,
-}
-
-// What a byte is as a sign: whether it is a minus, or none.
-#[derive(Clone, Copy)]
-pub enum Sign {
-    Is(bool),
-    Nothing,
 }
 
 fn is_blank(b: u8) -> bool
@@ -117,62 +101,60 @@ fn number_token(run: &[u8]) -> Token
     ensures { result ≡ numeral (number_of run.now) }
 {
     match parse_signed_prefixed_i64(run) {
-        Imm64::Value(v) => Token::Number(v),
-        Imm64::Invalid => Token::Unreadable,
+        Some(v) => Token::Number(v),
+        None => Token::Unreadable,
     }
 }
 
 // The one place where `+` and `-` are told: signs before a term, and operators between terms.
-pub fn sign_of(b: u8) -> Sign
+pub fn sign_of(b: u8) -> Option<bool>
     ensures { result ≡ sign_of b }
 {
     match b {
-        b'+' => Sign::Is(false),
-        b'-' => Sign::Is(true),
-        _ => Sign::Nothing,
+        b'+' => Some(false),
+        b'-' => Some(true),
+        _ => None,
     }
 }
 
 // The token at a place where neither a blank nor a sign stands.
-fn operand_here(s: &[u8], at: usize) -> TokenAt
-    requires { (at < length s.now) × (sign_of (get_or s.now at 0) ≡ sign.Nothing) }
+fn operand_here(s: &[u8], at: usize) -> Option<(Token, usize)>
+    requires { (at < length s.now) × (sign_of (get_or s.now at 0) ≡ None) }
     ensures { TokenHere s.now at result }
 {
     let b = s[at];
     if is_digit(b) {
         let end = number_end(s, at);
-        return TokenAt::At(number_token(&s[at..end]), end);
+        return Some((number_token(&s[at..end]), end));
     }
     if !is_name_byte(b) {
-        return TokenAt::At(Token::Unreadable, at + 1);
+        return Some((Token::Unreadable, at + 1));
     }
     let end = name_end(s, at);
     let len = end - at;
     if (b == b'.') & (len == 1) {
-        return TokenAt::At(Token::Dot, end);
+        return Some((Token::Dot, end));
     }
-    TokenAt::At(Token::Name(Span { start: at, len }), end)
+    Some((Token::Name(Span { start: at, len }), end))
 }
 
 // The token at a place where no blank stands.
-fn token_here(s: &[u8], at: usize) -> TokenAt
+fn token_here(s: &[u8], at: usize) -> Option<(Token, usize)>
     ensures { TokenHere s.now at result }
 {
     if s.len() <= at {
-        return TokenAt::End;
+        return None;
     }
-    let Sign::Is(minus) = sign_of(s[at]) else {
-        return operand_here(s, at);
-    };
-    if minus {
-        return TokenAt::At(Token::Minus, at + 1);
+    match sign_of(s[at]) {
+        Some(true) => Some((Token::Minus, at + 1)),
+        Some(false) => Some((Token::Plus, at + 1)),
+        None => operand_here(s, at),
     }
-    TokenAt::At(Token::Plus, at + 1)
 }
 
 // The next token from a place on. The expression of an `.equ` that a blank parts from its name is read with one space for each run of
 // white space: its tokens are those of the text itself where all white space is blank.
-pub fn token_at(s: &[u8], at: usize, one_space: bool) -> TokenAt
+pub fn token_at(s: &[u8], at: usize, one_space: bool) -> Option<(Token, usize)>
     ensures { TokenFrom one_space s.now at result }
 {
     token_here(s, skip_blanks(s, at, one_space))

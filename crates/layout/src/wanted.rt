@@ -3,18 +3,17 @@ ghost use Rattle.std.specs.Prelude.{◌≡◌};
 ghost use Rattle.numbers.specs.Code.Cursors.{spaced_operands_from};
 ghost use Rattle.layout.specs.Pseudos.{pseudo_operands};
 ghost use Rattle.layout.specs.Expansions.{one_register, one_label, register_and_label, register_and_number, wanted};
-ghost use Rattle.layout.specs.Code.Expands.{wanted_of};
+ghost use Rattle.layout.specs.Code.Expands.{wanted_as};
 
 use crate::pieces::word_len;
 use crate::pseudo::Pseudo;
+use crate::refusal::Refusal;
 use numbers::imm::parse_imm_one_spaced;
-use numbers::ints::Imm;
-use numbers::operands::{Only, RegisterAnd, only_operand, register_and_operand};
-use numbers::registers::{Reg, Register, parse_reg};
+use numbers::operands::{only_operand, register_and_operand};
+use numbers::registers::{Register, parse_reg};
 use numbers::text::{Span, span_bytes};
 
-// What the operands are; a name is a span of the source. Equate is a second operand that reads as no number. Wrong (18) is
-// another number of operands, no register where one must stand, or a register in a label's place.
+// What the operands are; a name is a span of the source. Equate is a second operand that reads as no number.
 #[derive(Clone, Copy)]
 pub enum Wanted {
     Register(Register),
@@ -22,32 +21,25 @@ pub enum Wanted {
     Equate(Register, Span),
     Label(Span),
     RegisterLabel(Register, Span),
-    Wrong,
 }
 
 // rd
-fn one_register(s: &[u8], at: usize) -> Wanted
-    ensures { wanted_of s.now result ≡ one_register (spaced_operands_from s.now at) }
+fn one_register(s: &[u8], at: usize) -> Result<Wanted, Refusal>
+    ensures { wanted_as s.now result ≡ one_register (spaced_operands_from s.now at) }
 {
-    let Only::At(one) = only_operand(s, at) else {
-        return Wanted::Wrong;
-    };
-    let Reg::Valid(rd) = parse_reg(span_bytes(s, one)) else {
-        return Wanted::Wrong;
-    };
-    Wanted::Register(rd)
+    let one = only_operand(s, at).ok_or(Refusal::WrongOperands)?;
+    let rd = parse_reg(span_bytes(s, one)).ok_or(Refusal::WrongOperands)?;
+    Ok(Wanted::Register(rd))
 }
 
 // label
-fn one_label(s: &[u8], at: usize) -> Wanted
-    ensures { wanted_of s.now result ≡ one_label (spaced_operands_from s.now at) }
+fn one_label(s: &[u8], at: usize) -> Result<Wanted, Refusal>
+    ensures { wanted_as s.now result ≡ one_label (spaced_operands_from s.now at) }
 {
-    let Only::At(one) = only_operand(s, at) else {
-        return Wanted::Wrong;
-    };
+    let one = only_operand(s, at).ok_or(Refusal::WrongOperands)?;
     match parse_reg(span_bytes(s, one)) {
-        Reg::Valid(_) => Wanted::Wrong,
-        Reg::Invalid => Wanted::Label(one),
+        Some(_) => Err(Refusal::WrongOperands),
+        None => Ok(Wanted::Label(one)),
     }
 }
 
@@ -62,31 +54,27 @@ fn anew(span: Span) -> Span
 }
 
 // rd, label
-fn register_and_label(s: &[u8], at: usize) -> Wanted
-    ensures { wanted_of s.now result ≡ register_and_label (spaced_operands_from s.now at) }
+fn register_and_label(s: &[u8], at: usize) -> Result<Wanted, Refusal>
+    ensures { wanted_as s.now result ≡ register_and_label (spaced_operands_from s.now at) }
 {
-    let RegisterAnd::Operand(rd, last) = register_and_operand(s, at) else {
-        return Wanted::Wrong;
-    };
-    Wanted::RegisterLabel(rd, anew(last))
+    let (rd, last) = register_and_operand(s, at).ok_or(Refusal::WrongOperands)?;
+    Ok(Wanted::RegisterLabel(rd, anew(last)))
 }
 
 // rd, number or equate
-fn register_and_number(s: &[u8], at: usize) -> Wanted
-    ensures { wanted_of s.now result ≡ register_and_number (spaced_operands_from s.now at) }
+fn register_and_number(s: &[u8], at: usize) -> Result<Wanted, Refusal>
+    ensures { wanted_as s.now result ≡ register_and_number (spaced_operands_from s.now at) }
 {
-    let RegisterAnd::Operand(rd, last) = register_and_operand(s, at) else {
-        return Wanted::Wrong;
-    };
+    let (rd, last) = register_and_operand(s, at).ok_or(Refusal::WrongOperands)?;
     match parse_imm_one_spaced(span_bytes(s, last)) {
-        Imm::Value(v) => Wanted::Number(rd, v),
-        Imm::Invalid => Wanted::Equate(rd, anew(last)),
+        Some(v) => Ok(Wanted::Number(rd, v)),
+        None => Ok(Wanted::Equate(rd, anew(last))),
     }
 }
 
 // The operands of a pseudo, which follow its source's first word.
-pub fn wanted_by(pseudo: Pseudo, s: &[u8]) -> Wanted
-    ensures { wanted_of s.now result ≡ wanted «pseudo» (pseudo_operands s.now) }
+pub fn wanted_by(pseudo: Pseudo, s: &[u8]) -> Result<Wanted, Refusal>
+    ensures { wanted_as s.now result ≡ wanted «pseudo» (pseudo_operands s.now) }
 {
     let at = word_len(s);
     match pseudo {

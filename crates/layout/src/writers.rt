@@ -1,42 +1,31 @@
 // Bytes, strings and zeros into lent bytes. What a directive writes becomes the prefix of the part of the data that it is lent, the remainder
 // unchanged.
 ghost use Rattle.std.specs.Prelude.{◌≡◌, ◌++◌, ◌≤◌, length, drop, replicate};
-ghost use Rattle.std.proofs.Math.Option.{some};
+ghost use Rattle.std.specs.Prelude.{Some};
 ghost use Rattle.numbers.specs.Strings.{decoded};
 ghost use Rattle.numbers.specs.Code.Strings.{decoded_bytes};
 ghost use Rattle.layout.specs.Code.Texts.{text_bytes, StoredIn};
 
-use numbers::strings::{Char, char_at};
+use numbers::strings::char_at;
 
 pub fn put_bytes(dst: &mut [u8], src: &[u8])
     requires { length src.now ≤ length dst.old }
     ensures { dst.new ≡ src.now ++ drop (length src.now) dst.old }
 {
-    let mut i = 0;
-    while i < src.len() {
-        dst[i] = src[i];
-        i += 1;
-    }
+    dst[..src.len()].copy_from_slice(src);
 }
 
 // The bytes that the text between two quotes stands for. It was read before: none of its characters is invalid.
 fn put_decoded(dst: &mut [u8], s: &[u8])
-    requires { (decoded s.now ≡ some (decoded_bytes s.now)) × (length (decoded_bytes s.now) ≤ length dst.old) }
+    requires { (decoded s.now ≡ Some (decoded_bytes s.now)) × (length (decoded_bytes s.now) ≤ length dst.old) }
     ensures { dst.new ≡ decoded_bytes s.now ++ drop (length (decoded_bytes s.now)) dst.old }
 {
     let mut i = 0;
     let mut n = 0;
-    while i < s.len() {
-        match char_at(s, i) {
-            Char::Is(b, more) => {
-                dst[n] = b;
-                i += more + 1;
-                n += 1;
-            }
-            Char::Invalid => {
-                return;
-            }
-        }
+    while let Some((b, more)) = char_at(s, i) {
+        dst[n] = b;
+        i += more + 1;
+        n += 1;
     }
 }
 
@@ -56,9 +45,5 @@ pub fn put_zeros(dst: &mut [u8], n: usize)
     requires { n ≤ length dst.old }
     ensures { dst.new ≡ replicate n 0 ++ drop n dst.old }
 {
-    let mut i = 0;
-    while i < n {
-        dst[i] = 0;
-        i += 1;
-    }
+    dst[..n].fill(0);
 }

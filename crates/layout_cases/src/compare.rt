@@ -1,15 +1,51 @@
 // One line of the list against what the call answers and leaves in the buffers.
 use crate::buffers::{LISTED, UNTOUCHED, UNTOUCHED_WORD, is_filled, is_filled_words};
-use crate::listed::{
-    ANSWER, BASE, FIELDS, LENT, SOURCE, USED, are_numbers, field_at, field_count, number,
+use crate::listed::{ANSWER, BASE, Fields, LENT, SOURCE, USED, are_numbers, fields_of, number};
+use layout::assembler::{Counts, assemble};
+use layout::limits::{
+    DATA_LIMIT, EQUATE_LIMIT, EQUATE_SIZE, ITEM_LIMIT, ITEM_SIZE, LABEL_LIMIT, LABEL_SIZE,
+    WORD_LIMIT,
 };
-use layout::assembler::{Answer, Counts, assemble};
-use layout::limits::{EQUATE_SIZE, ITEM_SIZE, LABEL_SIZE};
-use numbers::ints::least;
+use layout::refusal::RefusedAt;
 use replay::field::decode;
 
+// What a refusal leaves to count.
+const NO_COUNTS: Counts = Counts {
+    words: 0,
+    data_bytes: 0,
+    data_base: 0,
+    bss_size: 0,
+    labels: 0,
+    equates: 0,
+    items: 0,
+    evaluations: 0,
+};
+
+// The call's answer as the list has it: number, line and counts.
+#[derive(Clone, Copy)]
+struct Answer {
+    number: u8,
+    line: u32,
+    counts: Counts,
+}
+
+fn answer_of(laid: Result<Counts, RefusedAt>) -> Answer {
+    match laid {
+        Ok(counts) => Answer {
+            number: 0,
+            line: 0,
+            counts,
+        },
+        Err(refused) => Answer {
+            number: refused.refusal.number(),
+            line: refused.line,
+            counts: NO_COUNTS,
+        },
+    }
+}
+
 // Number, line and every count.
-fn answer_agrees(answer: Answer, line: &[u8]) -> bool {
+fn answer_agrees(answer: Answer, fields: &Fields<'_>) -> bool {
     let counts = answer.counts;
     let numbers = [
         answer.number as u64,
@@ -23,7 +59,7 @@ fn answer_agrees(answer: Answer, line: &[u8]) -> bool {
         counts.items as u64,
         counts.evaluations as u64,
     ];
-    are_numbers(&numbers, line, ANSWER)
+    are_numbers(&numbers, &fields.at[ANSWER..USED])
 }
 
 // How many elements of each buffer are lent.
@@ -36,17 +72,13 @@ struct Lent {
     items: usize,
 }
 
-fn lent_at(line: &[u8], k: usize) -> usize {
-    number(field_at(line, k)) as usize
-}
-
-fn lent_in(line: &[u8]) -> Lent {
+fn lent_in(fields: &Fields<'_>) -> Lent {
     Lent {
-        words: lent_at(line, LENT),
-        data_bytes: lent_at(line, LENT + 1),
-        labels: lent_at(line, LENT + 2),
-        equates: lent_at(line, LENT + 3),
-        items: lent_at(line, LENT + 4),
+        words: number(fields.at[LENT]) as usize,
+        data_bytes: number(fields.at[LENT + 1]) as usize,
+        labels: number(fields.at[LENT + 2]) as usize,
+        equates: number(fields.at[LENT + 3]) as usize,
+        items: number(fields.at[LENT + 4]) as usize,
     }
 }
 
@@ -61,20 +93,20 @@ fn call(
     equates: &mut [u8],
     items: &mut [u8],
 ) -> Answer {
-    let w = least(lent.words, words.len());
-    let d = least(lent.data_bytes, data_bytes.len());
-    let l = least(lent.labels, labels.len());
-    let e = least(lent.equates, equates.len());
-    let i = least(lent.items, items.len());
-    assemble(
+    let w = lent.words.min(words.len());
+    let d = lent.data_bytes.min(data_bytes.len());
+    let l = lent.labels.min(labels.len());
+    let e = lent.equates.min(equates.len());
+    let i = lent.items.min(items.len());
+    answer_of(assemble(
         text,
         base,
-        &mut words[0..w],
-        &mut data_bytes[0..d],
-        &mut labels[0..l],
-        &mut equates[0..e],
-        &mut items[0..i],
-    )
+        &mut words[..w],
+        &mut data_bytes[..d],
+        &mut labels[..l],
+        &mut equates[..e],
+        &mut items[..i],
+    ))
 }
 
 // What the call left in each buffer.
@@ -86,47 +118,47 @@ fn buffers_agree(
     labels: &[u8],
     equates: &[u8],
     items: &[u8],
-    line: &[u8],
+    fields: &Fields<'_>,
 ) -> bool {
-    is_filled_words(words, lent.words, counts.words, field_at(line, USED))
-        & is_filled(
+    is_filled_words(words, lent.words, counts.words, fields.at[USED])
+        && is_filled(
             data_bytes,
             lent.data_bytes,
             counts.data_bytes,
             1,
-            field_at(line, USED + 1),
+            fields.at[USED + 1],
         )
-        & is_filled(
+        && is_filled(
             labels,
             lent.labels,
             counts.labels,
             LABEL_SIZE,
-            field_at(line, USED + 2),
+            fields.at[USED + 2],
         )
-        & is_filled(
+        && is_filled(
             equates,
             lent.equates,
             counts.equates,
             EQUATE_SIZE,
-            field_at(line, USED + 3),
+            fields.at[USED + 3],
         )
-        & is_filled(
+        && is_filled(
             items,
             lent.items,
             counts.items,
             ITEM_SIZE,
-            field_at(line, USED + 4),
+            fields.at[USED + 4],
         )
 }
 
 // The buffers have every limit's full size, and hold something else than zeros before the call.
-fn call_agrees(text: &[u8], base: u32, line: &[u8]) -> bool {
-    let lent = lent_in(line);
-    let mut words = [UNTOUCHED_WORD; 16384];
-    let mut data_bytes = [UNTOUCHED; 65536];
-    let mut labels = [UNTOUCHED; 16384];
-    let mut equates = [UNTOUCHED; 6144];
-    let mut items = [UNTOUCHED; 49152];
+fn call_agrees(text: &[u8], base: u32, fields: &Fields<'_>) -> bool {
+    let lent = lent_in(fields);
+    let mut words = [UNTOUCHED_WORD; WORD_LIMIT];
+    let mut data_bytes = [UNTOUCHED; DATA_LIMIT];
+    let mut labels = [UNTOUCHED; LABEL_LIMIT * LABEL_SIZE];
+    let mut equates = [UNTOUCHED; EQUATE_LIMIT * EQUATE_SIZE];
+    let mut items = [UNTOUCHED; ITEM_LIMIT * ITEM_SIZE];
     let answer = call(
         text,
         base,
@@ -137,8 +169,8 @@ fn call_agrees(text: &[u8], base: u32, line: &[u8]) -> bool {
         &mut equates,
         &mut items,
     );
-    answer_agrees(answer, line)
-        & buffers_agree(
+    answer_agrees(answer, fields)
+        && buffers_agree(
             answer.counts,
             lent,
             &words,
@@ -146,16 +178,18 @@ fn call_agrees(text: &[u8], base: u32, line: &[u8]) -> bool {
             &labels,
             &equates,
             &items,
-            line,
+            fields,
         )
 }
 
 pub fn agrees(line: &[u8]) -> bool {
-    let base = number(field_at(line, BASE));
-    if 4294967295 < base {
+    let Some(fields) = fields_of(line) else {
         return false;
-    }
+    };
+    let Ok(base) = u32::try_from(number(fields.at[BASE])) else {
+        return false;
+    };
     let mut space = [0u8; LISTED];
-    let n = decode(field_at(line, SOURCE), &mut space);
-    (field_count(line) == FIELDS) & call_agrees(&space[0..n], base as u32, line)
+    let n = decode(fields.at[SOURCE], &mut space);
+    call_agrees(&space[..n], base, &fields)
 }

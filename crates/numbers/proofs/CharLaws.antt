@@ -6,7 +6,7 @@ use native.Mathlib.Omega.{arith}
 use mathlib.Core.Path.{◌≡◌, refl, sym, ap, ◌∙◌, subst}
 use mathlib.Core.List.{List, [], ◌∷◌, ◌++◌}
 use mathlib.Core.Bool.{Bool, true, false, cond}
-use mathlib.Core.Option.{Option, none, some}
+use Rattle.std.proofs.Common.{Option, None, Some}
 use lib.Dec.{leb, ltb, eqb}
 use lib.ListN.{length, take, drop, get_or, drop_of_length-le, length-drop}
 use lib.Seq.{drop-cons, drop-drop, take-suc, take-length}
@@ -83,8 +83,8 @@ more_small v n b h d =
 
 -- an escape takes a byte behind its backslash at least, and n at most
 abbrev Takes : ℕ → Option Char → Type 0
-Takes n none = Unit
-Takes n (some c) = (1 ≤ c.more) × (c.more ≤ n)
+Takes n None = Unit
+Takes n (Some c) = (1 ≤ c.more) × (c.more ≤ n)
 
 either_takes : (n : ℕ) (t : Bool) (a b : Option Char) → (t ≡ true → Takes n a) → Takes n b → Takes n (cond t a b)
 either_takes n true a b h k = h refl
@@ -95,7 +95,7 @@ unfolding octal_of
 octal_takes x xs d =
     let s : List ℕ = x ∷ xs in
     let first : leading is_digit s ≡ suc (leading is_digit (drop 1 s)) = leading_more is_digit s 0 (omega arith) d in
-    either_takes (length s) (leb (octal_value s) 255) (some (char (octal_value s) (octal_len s))) none
+    either_takes (length s) (leb (octal_value s) 255) (Some (char (octal_value s) (octal_len s))) None
     (λ _. (omega (arith, first), omega (arith, leading-within is_digit s))) tt
 
 simple_takes : (n e : ℕ) → 1 ≤ n → Takes n (simple_escape e)
@@ -107,7 +107,7 @@ simple_takes n e h =
     (either_takes n (eqb e 114) _ _ (λ _. one)
     (either_takes n (eqb e 116) _ _ (λ _. one)
     (either_takes n (eqb e 92) _ _ (λ _. one)
-    (either_takes n (eqb e 34) (some (char 34 1)) none (λ _. one) tt))))))
+    (either_takes n (eqb e 34) (Some (char 34 1)) None (λ _. one) tt))))))
 
 escape_takes : (s : List ℕ) → Takes (length s) (escape_of s)
 unfolding escape_of
@@ -116,12 +116,12 @@ escape_takes (x ∷ xs) =
     either_takes (suc (length xs)) (is_digit x) _ _ (octal_takes x xs) (simple_takes (suc (length xs)) x (omega arith))
 
 -- a character stands within the text
-char-within : (s : List ℕ) (c : Char) → char_of s ≡ some c → c.more < length s
+char-within : (s : List ℕ) (c : Char) → char_of s ≡ Some c → c.more < length s
 unfolding char_of
 char-within [] c e = absurd (none-some e)
 char-within (x ∷ xs) c e = go (eqb x 92) e
   where
-    go : (t : Bool) → cond t (escape_of xs) (some (char x 0)) ≡ some c → c.more < suc (length xs)
+    go : (t : Bool) → cond t (escape_of xs) (Some (char x 0)) ≡ Some c → c.more < suc (length xs)
     go true k = omega (arith, subst (Takes (length xs)) k (escape_takes xs))
     go false k = let same : char x 0 ≡ c = cc in omega (arith, ap (λ (d : Char). d.more) same)
 
@@ -134,32 +134,32 @@ decoded_skip zero s = refl
 decoded_skip (suc n) [] = refl
 decoded_skip (suc n) (x ∷ xs) = decoded_skip n xs
 
-decoded-char : (s : List ℕ) (c : Char) → char_of s ≡ some c → decoded s ≡ consed c.is (decoded (drop (suc c.more) s))
+decoded-char : (s : List ℕ) (c : Char) → char_of s ≡ Some c → decoded s ≡ consed c.is (decoded (drop (suc c.more) s))
 unfolding decoded_from char_of
 decoded-char [] c e = absurd (none-some e)
 decoded-char (x ∷ xs) c e = rw e (ap (consed c.is) (decoded_skip c.more xs))
 
-decoded-none : (s : List ℕ) → 0 < length s → char_of s ≡ none → decoded s ≡ none
+decoded-none : (s : List ℕ) → 0 < length s → char_of s ≡ None → decoded s ≡ None
 unfolding decoded_from
 decoded-none [] h e = absurd (not-suc-le-zero h)
 decoded-none (x ∷ xs) h e = rw e refl
 
 -- from a place on: by the character there, one that is none, and the end
 module _ (s : List ℕ) (i : ℕ) where
-  pub decoded_on : (c : Char) → char_of (drop i s) ≡ some c → decoded (drop i s) ≡ consed c.is (decoded (drop (i + (c.more + 1)) s))
+  pub decoded_on : (c : Char) → char_of (drop i s) ≡ Some c → decoded (drop i s) ≡ consed c.is (decoded (drop (i + (c.more + 1)) s))
   decoded_on c e =
       let one : suc c.more ≡ c.more + 1 = omega arith in
       decoded-char (drop i s) c e ∙ rw (drop-drop (suc c.more) i s, one) refl
 
-  pub decoded_bad : i < length s → char_of (drop i s) ≡ none → decoded (drop i s) ≡ none
+  pub decoded_bad : i < length s → char_of (drop i s) ≡ None → decoded (drop i s) ≡ None
   decoded_bad h e = decoded-none (drop i s) (omega (arith, length-drop i s)) e
 
-  pub decoded_end : length s ≤ i → decoded (drop i s) ≡ some []
+  pub decoded_end : length s ≤ i → decoded (drop i s) ≡ Some []
   unfolding decoded_from
   decoded_end h = rw (drop_of_length-le s h) refl
 
   -- a character there ends within the text
-  pub char_inside : (c : Char) → char_of (drop i s) ≡ some c → i + (c.more + 1) ≤ length s
+  pub char_inside : (c : Char) → char_of (drop i s) ≡ Some c → i + (c.more + 1) ≤ length s
   char_inside c e = omega (arith, char-within (drop i s) c e, length-drop i s)
 
 -- a text stands for no more bytes than it has
@@ -170,40 +170,40 @@ decoded_short (suc n) (x ∷ xs) = omega (arith, decoded_short n xs)
 decoded_short zero (x ∷ xs) = by (char_of (x ∷ xs)) (λ n. decoded_short n xs)
   where
     more : (b : ℕ) (o : Option (List ℕ)) → length (bytes_of o) ≤ length xs → length (bytes_of (consed b o)) ≤ suc (length xs)
-    more b none h = omega arith
-    more b (some bs) h = omega arith
+    more b None h = omega arith
+    more b (Some bs) h = omega arith
 
     by : (c : Option Char) → ((n : ℕ) → length (bytes_of (decoded_from n xs)) ≤ length xs)
         → length (bytes_of (then_rest c (λ n. decoded_from n xs))) ≤ suc (length xs)
-    by none h = omega arith
-    by (some c) h = more c.is (decoded_from c.more xs) (h c.more)
+    by None h = omega arith
+    by (Some c) h = more c.is (decoded_from c.more xs) (h c.more)
 
 -- nor, where n of them belong to the character before, than the others
 decoded_rest : (n : ℕ) (s : List ℕ) → length (bytes_of (decoded_from n s)) ≤ length s - n
 decoded_rest n s = rw (decoded_skip n s) (omega (arith, decoded_short 0 (drop n s), length-drop n s))
 
 -- a text that stands for as many bytes as it has stands for itself: an escape makes it shorter
-pub decoded-whole : (s bs : List ℕ) → decoded s ≡ some bs → length bs ≡ length s → bs ≡ s
+pub decoded-whole : (s bs : List ℕ) → decoded s ≡ Some bs → length bs ≡ length s → bs ≡ s
 unfolding decoded_from char_of
 decoded-whole [] bs e n = cc
 decoded-whole (x ∷ xs) bs e n = go (eqb x 92) (decoded-whole xs) e
   where
-    plain : (o : Option (List ℕ)) → ((r : List ℕ) → o ≡ some r → length r ≡ length xs → r ≡ xs) → consed x o ≡ some bs → bs ≡ x ∷ xs
-    plain none ih k = absurd (none-some k)
-    plain (some r) ih k =
+    plain : (o : Option (List ℕ)) → ((r : List ℕ) → o ≡ Some r → length r ≡ length xs → r ≡ xs) → consed x o ≡ Some bs → bs ≡ x ∷ xs
+    plain None ih k = absurd (none-some k)
+    plain (Some r) ih k =
         let all : x ∷ r ≡ bs = cc in
         sym all ∙ ap (λ (z : List ℕ). x ∷ z) (ih r refl (omega (arith, n, ap length all)))
 
-    fewer : (b m : ℕ) (o : Option (List ℕ)) → 1 ≤ m → m ≤ length xs → length (bytes_of o) ≤ length xs - m → consed b o ≡ some bs → ⊥
-    fewer b m none h j l k = none-some k
-    fewer b m (some r) h j l k = let all : b ∷ r ≡ bs = cc in omega (arith, n, ap length all)
+    fewer : (b m : ℕ) (o : Option (List ℕ)) → 1 ≤ m → m ≤ length xs → length (bytes_of o) ≤ length xs - m → consed b o ≡ Some bs → ⊥
+    fewer b m None h j l k = none-some k
+    fewer b m (Some r) h j l k = let all : b ∷ r ≡ bs = cc in omega (arith, n, ap length all)
 
-    escape : (c : Option Char) → Takes (length xs) c → then_rest c (λ m. decoded_from m xs) ≡ some bs → ⊥
-    escape none h k = none-some k
-    escape (some c) h k = fewer c.is c.more (decoded_from c.more xs) h.0 h.1 (decoded_rest c.more xs) k
+    escape : (c : Option Char) → Takes (length xs) c → then_rest c (λ m. decoded_from m xs) ≡ Some bs → ⊥
+    escape None h k = none-some k
+    escape (Some c) h k = fewer c.is c.more (decoded_from c.more xs) h.0 h.1 (decoded_rest c.more xs) k
 
-    go : (t : Bool) → ((r : List ℕ) → decoded xs ≡ some r → length r ≡ length xs → r ≡ xs)
-        → then_rest (cond t (escape_of xs) (some (char x 0))) (λ m. decoded_from m xs) ≡ some bs → bs ≡ x ∷ xs
+    go : (t : Bool) → ((r : List ℕ) → decoded xs ≡ Some r → length r ≡ length xs → r ≡ xs)
+        → then_rest (cond t (escape_of xs) (Some (char x 0))) (λ m. decoded_from m xs) ≡ Some bs → bs ≡ x ∷ xs
     go true ih k = absurd (escape (escape_of xs) (escape_takes xs) k)
     go false ih k = plain (decoded xs) ih k
 
@@ -211,25 +211,25 @@ decoded-whole (x ∷ xs) bs e n = go (eqb x 92) (decoded-whole xs) e
 
 -- n bytes, and those of an answer
 abbrev pub size_after : ℕ → Option ℕ → Option ℕ
-size_after n none = none
-size_after n (some m) = some (n + m)
+size_after n None = None
+size_after n (Some m) = Some (n + m)
 
 pub size_start : (o : Option ℕ) → size_after 0 o ≡ o
-size_start none = refl
-size_start (some m) = ap some (omega arith)
+size_start None = refl
+size_start (Some m) = ap Some (omega arith)
 
 -- a byte more before the answer is one byte more
 pub size_more : (n b : ℕ) (o : Option (List ℕ)) → size_after (n + 1) (size_of o) ≡ size_after n (size_of (consed b o))
-size_more n b none = refl
-size_more n b (some bs) = ap some (omega arith)
+size_more n b None = refl
+size_more n b (Some bs) = ap Some (omega arith)
 
 -- a count is at most the text's length
-pub size_short : (n : ℕ) (s : List ℕ) → some n ≡ size_of (decoded s) → n ≤ length s
+pub size_short : (n : ℕ) (s : List ℕ) → Some n ≡ size_of (decoded s) → n ≤ length s
 size_short n s e = by (decoded s) (decoded_short 0 s) e
   where
-    by : (o : Option (List ℕ)) → length (bytes_of o) ≤ length s → some n ≡ size_of o → n ≤ length s
-    by none h k = absurd (none-some (sym k))
-    by (some bs) h k = let all : n ≡ length bs = cc in omega arith
+    by : (o : Option (List ℕ)) → length (bytes_of o) ≤ length s → Some n ≡ size_of o → n ≤ length s
+    by None h k = absurd (none-some (sym k))
+    by (Some bs) h k = let all : n ≡ length bs = cc in omega arith
 
 -- n bytes before every backslash stand for themselves
 size_past : (k n : ℕ) (s : List ℕ) → n ≤ index_of 92 s → size_after k (size_of (decoded s)) ≡ size_after (k + n) (size_of (decoded (drop n s)))
@@ -250,10 +250,10 @@ pub size_plain : (n : ℕ) (s : List ℕ) → n ≤ index_of 92 s → size_of (d
 size_plain n s h = sym (size_start (size_of (decoded s))) ∙ size_past 0 n s h ∙ ap (λ (m : ℕ). size_after m (size_of (decoded (drop n s)))) (omega arith)
 
 -- a byte before an answer is the next of all the bytes, and the answer is what comes behind it
-pub next_byte : (bs : List ℕ) (n b : ℕ) (o : Option (List ℕ)) → consed b o ≡ some (drop n bs)
-    → (n < length bs) × (get_or bs n 0 ≡ b) × (o ≡ some (drop (n + 1) bs))
-next_byte bs n b none e = absurd (none-some e)
-next_byte bs n b (some rest) e =
+pub next_byte : (bs : List ℕ) (n b : ℕ) (o : Option (List ℕ)) → consed b o ≡ Some (drop n bs)
+    → (n < length bs) × (get_or bs n 0 ≡ b) × (o ≡ Some (drop (n + 1) bs))
+next_byte bs n b None e = absurd (none-some e)
+next_byte bs n b (Some rest) e =
     let whole : b ∷ rest ≡ drop n bs = cc in
     let h : n < length bs = omega (arith, ap length whole, length-drop n bs) in
     let parts : b ∷ rest ≡ get_or bs n 0 ∷ drop (n + 1) bs = whole ∙ rw (add-one n) (drop-cons bs n 0 h) in
@@ -268,11 +268,11 @@ stored_all bs dst n h e =
 -- ---- a text without an escape
 
 -- it stands for itself
-pub decoded-plain : (s : List ℕ) → length s ≤ index_of 92 s → decoded s ≡ some s
+pub decoded-plain : (s : List ℕ) → length s ≤ index_of 92 s → decoded s ≡ Some s
 decoded-plain s h =
-    let count : size_of (decoded s) ≡ some (length s + 0) = rw (decoded_end s (length s) (omega arith)) at (size_plain (length s) s h) in
-    by (decoded s) (decoded-whole s) (count ∙ ap some (omega arith))
+    let count : size_of (decoded s) ≡ Some (length s + 0) = rw (decoded_end s (length s) (omega arith)) at (size_plain (length s) s h) in
+    by (decoded s) (decoded-whole s) (count ∙ ap Some (omega arith))
   where
-    by : (o : Option (List ℕ)) → ((bs : List ℕ) → o ≡ some bs → length bs ≡ length s → bs ≡ s) → size_of o ≡ some (length s) → o ≡ some s
-    by none whole e = absurd (none-some e)
-    by (some bs) whole e = ap some (whole bs refl cc)
+    by : (o : Option (List ℕ)) → ((bs : List ℕ) → o ≡ Some bs → length bs ≡ length s → bs ≡ s) → size_of o ≡ Some (length s) → o ≡ Some s
+    by None whole e = absurd (none-some e)
+    by (Some bs) whole e = ap Some (whole bs refl cc)

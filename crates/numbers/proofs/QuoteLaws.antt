@@ -4,7 +4,7 @@ use native.Mathlib.Nat.{add-zero, not-suc-le-zero}
 use mathlib.Core.Path.{◌≡◌, refl, sym, ap, ◌∙◌}
 use mathlib.Core.List.{List, [], ◌∷◌, ◌++◌}
 use mathlib.Core.Bool.{Bool, true, false, cond, ◌&&◌, ◌||◌, true≢false, false≢true}
-use mathlib.Core.Option.{Option, none, some}
+use Rattle.std.proofs.Common.{Option, None, Some}
 use native.Mathlib.Omega.{arith}
 use native.Mathlib.Numerals.{add-one}
 use lib.Dec.{eqb, ltb}
@@ -148,7 +148,7 @@ module _ (s : List ℕ) (at mark : ℕ) (h : at ≤ length s) (m : mark ≡ at +
     long : to_quote false (drop at s) ≡ end - at
     long = omega (arith, quote_on s at mark (omega arith) (omega arith))
 
-    pub unclosed : length s ≤ end → quoted_of (drop at s) ≡ none
+    pub unclosed : length s ≤ end → quoted_of (drop at s) ≡ None
     unfolding quoted_of
     unclosed k = rw (le-ltb (to_quote false (drop at s)) (length (drop at s)) (omega (arith, long, length-drop at s))) refl
 
@@ -162,7 +162,7 @@ module _ (s : List ℕ) (at mark : ℕ) (h : at ≤ length s) (m : mark ≡ at +
           let e : at + suc (to_quote false (drop at s)) ≡ end + 1 = omega (arith, long) in
           drop-drop (suc (to_quote false (drop at s))) at s ∙ ap (λ (n : ℕ). drop n s) e
 
-      pub beside : nothing_beside (drop (end + 1) s) ≡ false → quoted_of (drop at s) ≡ none
+      pub beside : nothing_beside (drop (end + 1) s) ≡ false → quoted_of (drop at s) ≡ None
       unfolding quoted_of
       beside c = rw (closes, behind, c) refl
 
@@ -183,7 +183,7 @@ module _ (s : List ℕ) (at mark : ℕ) (h : at ≤ length s) (m : mark ≡ at +
           let plain : n ≤ index_of 92 t = rw (index_take 92 (end - at) (drop at s)) (omega arith) in
           rw (closed c, long, e, ← behind_n, ← size_plain n t plain) refl
 
-      pub counted_few : (n : ℕ) → some n ≡ size_of (decoded (take (end - mark) (drop mark s))) → mark - at + n ≤ length s
+      pub counted_few : (n : ℕ) → Some n ≡ size_of (decoded (take (end - mark) (drop mark s))) → mark - at + n ≤ length s
       counted_few n e =
           let rest : List ℕ = take (end - mark) (drop mark s) in
           omega (arith, size_short n rest e, length-take (end - mark) (drop mark s))
@@ -192,11 +192,11 @@ module _ (s : List ℕ) (at mark : ℕ) (h : at ≤ length s) (m : mark ≡ at +
 
 -- by the byte behind the white space: no quote, or a quote
 module _ (s : List ℕ) (n : ℕ) (e : n ≡ leading_spaces s) where
-  pub opened_not : (get_or s n 0 ≡ 34 → ⊥) → none ≡ quoted_at s
+  pub opened_not : (get_or s n 0 ≡ 34 → ⊥) → None ≡ quoted_at s
   unfolding quoted_at string_bytes
   opened_not k = rw (← e, go (drop n s) (get_or-drop n s 0 0 ∙ rw (add-zero n) refl)) refl
     where
-      go : (t : List ℕ) → get_or t 0 0 ≡ get_or s n 0 → opened_of t ≡ none
+      go : (t : List ℕ) → get_or t 0 0 ≡ get_or s n 0 → opened_of t ≡ None
       go [] f = refl
       go (x ∷ xs) f = rw (ne_eqb x 34 (λ g. k (sym f ∙ g))) refl
 
@@ -211,43 +211,43 @@ module _ (s : List ℕ) (n : ℕ) (e : n ≡ leading_spaces s) where
 -- ---- what is answered
 
 -- a string's bytes, and where they are read
-opened_some : (t bs : List ℕ) → opened_of t ≡ some bs → quoted_of (drop 1 t) ≡ some bs
+opened_some : (t bs : List ℕ) → opened_of t ≡ Some bs → quoted_of (drop 1 t) ≡ Some bs
 opened_some [] bs e = absurd (none-some e)
 opened_some (x ∷ xs) bs e = go (eqb x 34) e
   where
-    go : (t : Bool) → cond t (quoted_of xs) none ≡ some bs → quoted_of xs ≡ some bs
+    go : (t : Bool) → cond t (quoted_of xs) None ≡ Some bs → quoted_of xs ≡ Some bs
     go true k = k
     go false k = absurd (none-some k)
 
-closed_some : (s bs : List ℕ) → quoted_of s ≡ some bs → (to_quote false s < length s) × (decoded (take (to_quote false s) s) ≡ some bs)
+closed_some : (s bs : List ℕ) → quoted_of s ≡ Some bs → (to_quote false s < length s) × (decoded (take (to_quote false s) s) ≡ Some bs)
 unfolding quoted_of
 closed_some s bs e = go (ltb (to_quote false s) (length s)) (nothing_beside (drop (suc (to_quote false s)) s)) refl e
   where
-    go : (a b : Bool) → ltb (to_quote false s) (length s) ≡ a → cond (a && b) (decoded (take (to_quote false s) s)) none ≡ some bs
-        → (to_quote false s < length s) × (decoded (take (to_quote false s) s) ≡ some bs)
+    go : (a b : Bool) → ltb (to_quote false s) (length s) ≡ a → cond (a && b) (decoded (take (to_quote false s) s)) None ≡ Some bs
+        → (to_quote false s < length s) × (decoded (take (to_quote false s) s) ≡ Some bs)
     go true true h k = (ltb-true _ _ h, k)
     go true false h k = absurd (none-some k)
     go false b h k = absurd (none-some k)
 
-read_some : (s bs : List ℕ) → string_bytes s ≡ some bs
+read_some : (s bs : List ℕ) → string_bytes s ≡ Some bs
     → (to_quote false (drop (leading_spaces s + 1) s) < length (drop (leading_spaces s + 1) s))
-    × (decoded (spanned s (record { start = leading_spaces s + 1; len = to_quote false (drop (leading_spaces s + 1) s) })) ≡ some bs)
+    × (decoded (spanned s (record { start = leading_spaces s + 1; len = to_quote false (drop (leading_spaces s + 1) s) })) ≡ Some bs)
 unfolding string_bytes spanned
 read_some s bs e = closed_some (drop (leading_spaces s + 1) s) bs (rw (drop-drop 1 (leading_spaces s) s) at (opened_some (drop (leading_spaces s) s) bs e))
 
-sized-some : (p : Span) (o : Option (List ℕ)) (q : Quoted) → sized p (size_of o) ≡ some q
-    → (q.part ≡ p) × (o ≡ some (bytes_of o)) × (q.size ≡ length (bytes_of o))
-sized-some p none q e = absurd (none-some e)
-sized-some p (some bs) q e =
+sized-some : (p : Span) (o : Option (List ℕ)) (q : Quoted) → sized p (size_of o) ≡ Some q
+    → (q.part ≡ p) × (o ≡ Some (bytes_of o)) × (q.size ≡ length (bytes_of o))
+sized-some p None q e = absurd (none-some e)
+sized-some p (Some bs) q e =
     let same : q ≡ record { part = p; size = length bs } = cc in
     (ap (λ (x : Quoted). x.part) same, refl, ap (λ (x : Quoted). x.size) same)
 
 -- a string: its text lies within what is read, and it stands for the string's bytes
-module _ (s : List ℕ) (q : Quoted) (e : quoted_at s ≡ some q) where
+module _ (s : List ℕ) (q : Quoted) (e : quoted_at s ≡ Some q) where
   abbrev at : ℕ
   at = leading_spaces s + 1
 
-  known : (q.part ≡ record { start = at; len = to_quote false (drop at s) }) × (string_bytes s ≡ some (bytes_of (string_bytes s)))
+  known : (q.part ≡ record { start = at; len = to_quote false (drop at s) }) × (string_bytes s ≡ Some (bytes_of (string_bytes s)))
       × (q.size ≡ length (bytes_of (string_bytes s)))
   unfolding quoted_at
   known = sized-some (record { start = at; len = to_quote false (drop at s) }) (string_bytes s) q e
@@ -255,26 +255,26 @@ module _ (s : List ℕ) (q : Quoted) (e : quoted_at s ≡ some q) where
   pub quoted_within : q.part.start + q.part.len ≤ length s
   quoted_within = rw known.0 (omega (arith, (read_some s _ known.1).0, length-drop at s))
 
-  same_bytes : decoded (spanned s q.part) ≡ some (bytes_of (string_bytes s))
+  same_bytes : decoded (spanned s q.part) ≡ Some (bytes_of (string_bytes s))
   same_bytes = rw known.0 (read_some s _ known.1).1
 
-  pub quoted_decoded : decoded (spanned s q.part) ≡ some (decoded_bytes (spanned s q.part))
+  pub quoted_decoded : decoded (spanned s q.part) ≡ Some (decoded_bytes (spanned s q.part))
   quoted_decoded = rw same_bytes refl
 
-  pub quoted_bytes : string_bytes s ≡ some (decoded_bytes (spanned s q.part))
+  pub quoted_bytes : string_bytes s ≡ Some (decoded_bytes (spanned s q.part))
   quoted_bytes = known.1 ∙ sym same_bytes ∙ quoted_decoded
 
   pub quoted_size : q.size ≡ length (decoded_bytes (spanned s q.part))
   quoted_size = known.2 ∙ ap (λ o. length (bytes_of o)) (sym same_bytes)
 
 -- no string
-pub quoted_none : (s : List ℕ) → quoted_at s ≡ none → string_bytes s ≡ none
+pub quoted_none : (s : List ℕ) → quoted_at s ≡ None → string_bytes s ≡ None
 unfolding quoted_at
 quoted_none s e = go (string_bytes s) e
   where
-    go : (o : Option (List ℕ)) → quoted_from s (leading_spaces s + 1) o ≡ none → o ≡ none
-    go none k = refl
-    go (some bs) k = absurd (none-some (sym k))
+    go : (o : Option (List ℕ)) → quoted_from s (leading_spaces s + 1) o ≡ None → o ≡ None
+    go None k = refl
+    go (Some bs) k = absurd (none-some (sym k))
 
 -- ---- punctuation
 
@@ -292,7 +292,7 @@ quote_behind (x ∷ xs) h = go (eqb x 34) (eqb x 92) (quote_behind xs) h
 
 -- "Punctuation in display strings": between two quotes every text without a quote and a backslash stands for itself, whatever colons, comment
 -- marks and white space it has (by document 01's definition too: `string_between`)
-pub punctuation : (s : List ℕ) → index_of (byte "\"") s ≡ length s → index_of (byte "\\") s ≡ length s → string_bytes (text "\"" ++ s ++ text "\"") ≡ some s
+pub punctuation : (s : List ℕ) → index_of (byte "\"") s ≡ length s → index_of (byte "\\") s ≡ length s → string_bytes (text "\"" ++ s ++ text "\"") ≡ Some s
 unfolding string_bytes quoted_of nothing_beside leading
 punctuation s q b =
     let t : List ℕ = s ++ text "\"" in

@@ -4,7 +4,7 @@ use Prim.Native.Nat.{ℕ}
 use Prim.Native.String.{String}
 use mathlib.Core.Path.{◌≡◌, refl}
 use mathlib.Core.List.{List, [], ◌∷◌, ◌++◌, map}
-use mathlib.Core.Option.{Option, none, some}
+use Rattle.std.proofs.Common.{Option, None, Some}
 use Rattle.numbers.specs.Text.{text, leading}
 use Rattle.numbers.specs.Numbers.{value_from}
 use Rattle.numbers.specs.Strings.{octal_of, escape_of, char_of, decoded_from, to_quote, nothing_beside, quoted_of, string_bytes}
@@ -14,7 +14,7 @@ abbrev gives : String → Option (List ℕ)
 gives s = string_bytes (text s)
 
 abbrev one_byte : ℕ → Option (List ℕ)
-one_byte b = some (b ∷ [])
+one_byte b = Some (b ∷ [])
 
 -- each escape; one to three digits, 8 and 9 among them; 377 is the last
 abbrev escape_texts : List String
@@ -39,16 +39,16 @@ invalid_texts =
 
 pub string-cases :
     -- the request's own
-    (gives " \"12:40 #3;ok\\n\"" ≡ some (text "12:40 #3;ok" ++ (10 ∷ [])))
-    × (quoted_at (text " \"12:40 #3;ok\\n\"") ≡ some (record { part = record { start = 2; len = 13 }; size = 12 }))
+    (gives " \"12:40 #3;ok\\n\"" ≡ Some (text "12:40 #3;ok" ++ (10 ∷ [])))
+    × (quoted_at (text " \"12:40 #3;ok\\n\"") ≡ Some (record { part = record { start = 2; len = 13 }; size = 12 }))
     × (map gives escape_texts ≡ map one_byte (8 ∷ 12 ∷ 10 ∷ 13 ∷ 9 ∷ 92 ∷ 34 ∷ 0 ∷ 8 ∷ 8 ∷ 8 ∷ 9 ∷ 10 ∷ 81 ∷ 65 ∷ 255 ∷ []))
     × (map gives string_texts
-    ≡ some (83 ∷ 52 ∷ []) ∷ some (8 ∷ 83 ∷ 52 ∷ []) ∷ some (10 ∷ 110 ∷ []) ∷ some (10 ∷ 10 ∷ []) ∷ some (97 ∷ 92 ∷ []) ∷ some (97 ∷ 34 ∷ []) ∷
-    some (92 ∷ 34 ∷ []) ∷ some [] ∷ some (text "x: y = 'z', #1;") ∷ some (text " a ") ∷ some (text "a") ∷ some (text "a") ∷ some (text "a") ∷
-    some (text "a") ∷ [])
+    ≡ Some (83 ∷ 52 ∷ []) ∷ Some (8 ∷ 83 ∷ 52 ∷ []) ∷ Some (10 ∷ 110 ∷ []) ∷ Some (10 ∷ 10 ∷ []) ∷ Some (97 ∷ 92 ∷ []) ∷ Some (97 ∷ 34 ∷ []) ∷
+    Some (92 ∷ 34 ∷ []) ∷ Some [] ∷ Some (text "x: y = 'z', #1;") ∷ Some (text " a ") ∷ Some (text "a") ∷ Some (text "a") ∷ Some (text "a") ∷
+    Some (text "a") ∷ [])
     -- CR behind the string; NUL, 11 and 12 in it
-    × (string_bytes (text "\"a\"" ++ (13 ∷ [])) ≡ some (text "a"))
-    × (string_bytes (text "\"" ++ (0 ∷ 11 ∷ 12 ∷ []) ++ text "\"") ≡ some (0 ∷ 11 ∷ 12 ∷ []))
-    × (map gives invalid_texts ≡ map (λ (s : String). none) invalid_texts)
+    × (string_bytes (text "\"a\"" ++ (13 ∷ [])) ≡ Some (text "a"))
+    × (string_bytes (text "\"" ++ (0 ∷ 11 ∷ 12 ∷ []) ++ text "\"") ≡ Some (0 ∷ 11 ∷ 12 ∷ []))
+    × (map gives invalid_texts ≡ map (λ (s : String). None) invalid_texts)
 unfolding quoted_at string_bytes quoted_of to_quote nothing_beside decoded_from char_of escape_of octal_of leading value_from
 string-cases = (refl, refl, refl, refl, refl, refl, refl)

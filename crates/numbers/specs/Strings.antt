@@ -1,6 +1,6 @@
 -- A string of the data section, with its escapes. Document 02, W-201, and the GNU as manual, "Strings".
 use Rattle.std.specs.Prelude.{ℕ, zero, suc, min, List, [], ◌∷◌, Bool, true, false, cond, ◌&&◌, ◌||◌, leb, ltb, eqb, length, get_or, take, drop}
-use Rattle.std.proofs.Math.Option.{Option, none, some}
+use Rattle.std.specs.Prelude.{Option, None, Some}
 use Rattle.numbers.specs.Text.{byte, is_digit, leading, leading_spaces}
 use Rattle.numbers.specs.Numbers.{value_from}
 
@@ -17,14 +17,14 @@ char b n = record { is = b; more = n }
 -- "`\b \f \n \r \t \\ \"`", the simple escapes, by the byte behind the backslash; "another escape .. is 9"
 abbrev pub simple_escape : ℕ → Option Char
 simple_escape e =
-    cond (eqb e (byte "b")) (some (char 8 1))
-    (cond (eqb e (byte "f")) (some (char 12 1))
-    (cond (eqb e (byte "n")) (some (char 10 1))
-    (cond (eqb e (byte "r")) (some (char 13 1))
-    (cond (eqb e (byte "t")) (some (char 9 1))
-    (cond (eqb e (byte "\\")) (some (char (byte "\\") 1))
-    (cond (eqb e (byte "\"")) (some (char (byte "\"") 1))
-    none))))))
+    cond (eqb e (byte "b")) (Some (char 8 1))
+    (cond (eqb e (byte "f")) (Some (char 12 1))
+    (cond (eqb e (byte "n")) (Some (char 10 1))
+    (cond (eqb e (byte "r")) (Some (char 13 1))
+    (cond (eqb e (byte "t")) (Some (char 9 1))
+    (cond (eqb e (byte "\\")) (Some (char (byte "\\") 1))
+    (cond (eqb e (byte "\"")) (Some (char (byte "\"") 1))
+    None))))))
 
 -- "one to three octal digits": how many a text begins with; the GNU as manual: "8 and 9 are accepted as digits"
 abbrev pub octal_len : List ℕ → ℕ
@@ -35,7 +35,7 @@ octal_value s = value_from 8 0 (take (octal_len s) s)
 
 -- "up to 377": "an octal above 377 .. is 9"
 abbrev pub octal_is : ℕ → ℕ → Option Char
-octal_is v n = cond (leb v 255) (some (char v n)) none
+octal_is v n = cond (leb v 255) (Some (char v n)) None
 
 unfoldable pub octal_of : List ℕ → Option Char
 octal_of s = octal_is (octal_value s) (octal_len s)
@@ -46,23 +46,23 @@ escape_of s = cond (is_digit (get_or s 0 0)) (octal_of s) (simple_escape (get_or
 
 -- the character that a text begins with: a byte or an escape
 unfoldable pub char_of : List ℕ → Option Char
-char_of [] = none
-char_of (x ∷ xs) = cond (eqb x (byte "\\")) (escape_of xs) (some (char x 0))
+char_of [] = None
+char_of (x ∷ xs) = cond (eqb x (byte "\\")) (escape_of xs) (Some (char x 0))
 
 -- ---- what stands between the quotes
 
 abbrev pub consed : ℕ → Option (List ℕ) → Option (List ℕ)
-consed b none = none
-consed b (some bs) = some (b ∷ bs)
+consed b None = None
+consed b (Some bs) = Some (b ∷ bs)
 
 -- a character's byte before those of what stands behind it
 abbrev pub then_rest : Option Char → (ℕ → Option (List ℕ)) → Option (List ℕ)
-then_rest none rest = none
-then_rest (some c) rest = consed c.is (rest c.more)
+then_rest None rest = None
+then_rest (Some c) rest = consed c.is (rest c.more)
 
 -- the bytes of a text's characters, n bytes of which belong to the character before
 unfoldable pub decoded_from : ℕ → List ℕ → Option (List ℕ)
-decoded_from n [] = some []
+decoded_from n [] = Some []
 decoded_from (suc n) (x ∷ xs) = decoded_from n xs
 decoded_from zero (x ∷ xs) = then_rest (char_of (x ∷ xs)) (λ n. decoded_from n xs)
 
@@ -97,11 +97,11 @@ unfoldable pub quoted_of : List ℕ → Option (List ℕ)
 quoted_of s =
     cond (ltb (to_quote false s) (length s) && nothing_beside (drop (suc (to_quote false s)) s))
     (decoded (take (to_quote false s) s))
-    none
+    None
 
 abbrev pub opened_of : List ℕ → Option (List ℕ)
-opened_of [] = none
-opened_of (x ∷ xs) = cond (eqb x (byte "\"")) (quoted_of xs) none
+opened_of [] = None
+opened_of (x ∷ xs) = cond (eqb x (byte "\"")) (quoted_of xs) None
 
 -- what stands from behind a string directive to the line's end, white space and then the string: the string's bytes, or none where it is no
 -- string

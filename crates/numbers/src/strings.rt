@@ -2,7 +2,7 @@
 ghost use Rattle.std.specs.Prelude.{◌≡◌, false, ◌+◌, ◌*◌, ◌/◌, ◌≤◌, length, drop, get_or};
 ghost use Rattle.numbers.specs.Strings.{octal_is, octal_of, simple_escape, escape_of, char_of, decoded};
 ghost use Rattle.numbers.specs.Strings.{to_quote, nothing_beside, quoted_of};
-ghost use Rattle.numbers.specs.Code.Strings.{char_value, size_value, str_value, size_of, plain_len, quoted_from, quoted_at};
+ghost use Rattle.numbers.specs.Code.Strings.{char_value, size_of, plain_len, quoted_from, quoted_at};
 
 use crate::text::{Span, in_sixteen, is_digit, leading_spaces};
 
@@ -11,26 +11,6 @@ use crate::text::{Span, in_sixteen, is_digit, leading_spaces};
 pub struct Quoted {
     pub part: Span,
     pub size: usize,
-}
-
-#[derive(Clone, Copy)]
-pub enum Str {
-    Is(Quoted),
-    Invalid,
-}
-
-// A character of a string: the byte that it stands for, and how many bytes it takes behind its first.
-#[derive(Clone, Copy)]
-pub enum Char {
-    Is(u8, usize),
-    Invalid,
-}
-
-// How many bytes a text between quotes stands for.
-#[derive(Clone, Copy)]
-enum Size {
-    Is(usize),
-    Invalid,
 }
 
 // The byte at a place; past the end it is 0, which is no escape's byte.
@@ -43,17 +23,17 @@ fn byte_at(s: &[u8], i: usize) -> u8
     s[i]
 }
 
-fn octal(v: usize, digits: usize) -> Char
+fn octal(v: usize, digits: usize) -> Option<(u8, usize)>
     ensures { char_value result ≡ octal_is v digits }
 {
     if 255 < v {
-        return Char::Invalid;
+        return None;
     }
-    Char::Is(v as u8, digits)
+    Some((v as u8, digits))
 }
 
 // One to three digits.
-fn octal_of(s: &[u8]) -> Char
+fn octal_of(s: &[u8]) -> Option<(u8, usize)>
     ensures { char_value result ≡ octal_of s.now }
 {
     let mut v: usize = 0;
@@ -69,23 +49,23 @@ fn octal_of(s: &[u8]) -> Char
     octal(v, n)
 }
 
-fn simple_escape(e: u8) -> Char
+fn simple_escape(e: u8) -> Option<(u8, usize)>
     ensures { char_value result ≡ simple_escape e }
 {
     match e {
-        b'b' => Char::Is(8, 1),
-        b'f' => Char::Is(12, 1),
-        b'n' => Char::Is(10, 1),
-        b'r' => Char::Is(13, 1),
-        b't' => Char::Is(9, 1),
-        b'\\' => Char::Is(b'\\', 1),
-        b'"' => Char::Is(b'"', 1),
-        _ => Char::Invalid,
+        b'b' => Some((8, 1)),
+        b'f' => Some((12, 1)),
+        b'n' => Some((10, 1)),
+        b'r' => Some((13, 1)),
+        b't' => Some((9, 1)),
+        b'\\' => Some((b'\\', 1)),
+        b'"' => Some((b'"', 1)),
+        _ => None,
     }
 }
 
 // An escape, by what stands behind its backslash.
-fn escape_of(s: &[u8]) -> Char
+fn escape_of(s: &[u8]) -> Option<(u8, usize)>
     ensures { char_value result ≡ escape_of s.now }
 {
     let b = byte_at(s, 0);
@@ -96,37 +76,37 @@ fn escape_of(s: &[u8]) -> Char
 }
 
 // The character at a place; there is none at the end or past it.
-pub fn char_at(s: &[u8], at: usize) -> Char
+pub fn char_at(s: &[u8], at: usize) -> Option<(u8, usize)>
     ensures { char_value result ≡ char_of (drop at s.now) }
 {
     if s.len() <= at {
-        return Char::Invalid;
+        return None;
     }
     let b = s[at];
     if b == b'\\' {
         return escape_of(&s[at + 1..]);
     }
-    Char::Is(b, 0)
+    Some((b, 0))
 }
 
 // How many bytes the text between two quotes stands for.
-fn decoded_len(s: &[u8]) -> Size
-    ensures { size_value result ≡ size_of (decoded s.now) }
+fn decoded_len(s: &[u8]) -> Option<usize>
+    ensures { result ≡ size_of (decoded s.now) }
 {
     let mut i = 0;
     let mut n = 0;
     while i < s.len() {
         match char_at(s, i) {
-            Char::Is(_, more) => {
+            Some((_, more)) => {
                 i += more + 1;
                 n += 1;
             }
-            Char::Invalid => {
-                return Size::Invalid;
+            None => {
+                return None;
             }
         }
     }
-    Size::Is(n)
+    Some(n)
 }
 
 // The place up to which whole blocks of sixteen bytes, from a place on, have neither a quote nor a backslash.
@@ -144,7 +124,8 @@ fn mark_blocks(s: &[u8], at: usize) -> usize
     i
 }
 
-// The first quote or backslash from a place on, or the end.
+// The first quote or backslash from a place on, or the end. By a place and not by `leading_far`: behind an escape few bytes are passed,
+// and that took a tenth more instructions on strings of escapes.
 fn mark_from(s: &[u8], at: usize) -> usize
     requires { at ≤ length s.now }
     ensures { result ≡ at + plain_len (drop at s.now) }
@@ -190,22 +171,20 @@ fn nothing_beside(s: &[u8]) -> bool
 }
 
 // A string, from behind its first quote to the line's end. The bytes before its first escape stand for themselves.
-fn quoted_from(s: &[u8], at: usize) -> Str
+fn quoted_from(s: &[u8], at: usize) -> Option<Quoted>
     requires { at ≤ length s.now }
-    ensures { str_value result ≡ quoted_from s.now at (quoted_of (drop at s.now)) }
+    ensures { result ≡ quoted_from s.now at (quoted_of (drop at s.now)) }
 {
     let mark = mark_from(s, at);
     let end = quote_from(s, mark);
     if s.len() <= end {
-        return Str::Invalid;
+        return None;
     }
     if !nothing_beside(&s[end + 1..]) {
-        return Str::Invalid;
+        return None;
     }
-    let Size::Is(size) = decoded_len(&s[mark..end]) else {
-        return Str::Invalid;
-    };
-    Str::Is(Quoted {
+    let size = decoded_len(&s[mark..end])?;
+    Some(Quoted {
         part: Span {
             start: at,
             len: end - at,
@@ -217,12 +196,12 @@ fn quoted_from(s: &[u8], at: usize) -> Str
 // The string from behind a string directive to the line's end: where the text between its quotes stands in s, and how many bytes it stands
 // for. Invalid where a quote is missing, where an escape is another one or above 377, or where text stands beside the string but for a
 // comment after it.
-pub fn parse_string(s: &[u8]) -> Str
-    ensures { str_value result ≡ quoted_at s.now }
+pub fn parse_string(s: &[u8]) -> Option<Quoted>
+    ensures { result ≡ quoted_at s.now }
 {
     let start = leading_spaces(s);
     if byte_at(s, start) != b'"' {
-        return Str::Invalid;
+        return None;
     }
     quoted_from(s, start + 1)
 }

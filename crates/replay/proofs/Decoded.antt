@@ -2,35 +2,29 @@
 use Rattle.std.proofs.Common.{◌≡◌, ℕ, zero, suc, ◌+◌, ◌-◌, ◌<◌, ◌≤◌, Bool, true, false, cond, ◌&&◌, eqb, ltb, List, [], ◌∷◌, ◌++◌, length, get_or, take, drop, set, sym, refl, ap, ◌∙◌, append_assoc, append-nil, add-one, arith, drop_of_length-le, length-take-le, take_all, drop-cons, drop-drop, take-suc-set, le-ltb, lt-ltb, eq-eqb, ne_eqb}
 use lib.Seq.{take-append-le}
 use Rattle.numbers.specs.Text.{byte, index_of}
-use Rattle.numbers.proofs.Places.{index_within}
 use Rattle.numbers.proofs.Trims.{tail}
 use Rattle.replay.specs.declared.field.Written.{Written}
 use Rattle.replay.specs.Fields.{after, plain, hex_byte, written_first, decoded_past, decoded}
 
 -- no b: nothing follows it
-pub after_none : (b : ℕ) (s : List ℕ) (n : ℕ) → n ≡ index_of b s → n ≡ length s → take (length s - n) (drop n s) ≡ after b s
+pub after_none : (b : ℕ) (s : List ℕ) (n : ℕ) → n ≡ index_of b s → length s < n + 1 → [] ≡ after b s
 unfolding after
-after_none b s n e h =
-    rw (tail s n, drop_of_length-le s {i = n} (omega arith), drop_of_length-le s {i = index_of b s + 1} (omega arith)) refl
+after_none b s n e h = rw (drop_of_length-le s {i = index_of b s + 1} (omega (arith, e, h))) refl
 
 -- a b: what stands behind it
-pub after-some : (b : ℕ) (s : List ℕ) (n : ℕ) → n ≡ index_of b s → take (length s - (n + 1)) (drop (n + 1) s) ≡ after b s
+pub after_some : (b : ℕ) (s : List ℕ) (n : ℕ) → n ≡ index_of b s → take (length s - (n + 1)) (drop (n + 1) s) ≡ after b s
 unfolding after
-after-some b s n e = rw (tail s (n + 1), e) refl
-
--- it stands within the text
-pub after-within : (b : ℕ) (s : List ℕ) (n : ℕ) → n ≡ index_of b s → (n ≡ length s → ⊥) → n < length s
-after-within b s n e h = omega (arith, index_within b s, e, h)
+after_some b s n e = rw (tail s (n + 1), e) refl
 
 both : (t : Bool) → t && false ≡ false
 both true = refl
 both false = refl
 
 -- the four ways to write a first byte
-pub first-none : (s : List ℕ) → length s ≡ 0 → plain 0 ≡ written_first s
+pub first_empty : (s : List ℕ) → length s ≡ 0 → plain 0 ≡ written_first s
 unfolding written_first
-first-none [] h = refl
-first-none (x ∷ xs) h = absurd (omega arith)
+first_empty [] h = refl
+first_empty (x ∷ xs) h = absurd (omega arith)
 
 pub first_plain : (s : List ℕ) → (get_or s 0 0 ≡ byte "%" → ⊥) → plain (get_or s 0 0) ≡ written_first s
 unfolding written_first
@@ -40,9 +34,9 @@ pub first_short : (s : List ℕ) → length s ≤ 2 → plain (get_or s 0 0) ≡
 unfolding written_first
 first_short s h = rw (le-ltb 2 (length s) h, both (eqb (get_or s 0 0) (byte "%"))) refl
 
-pub first-escaped : (s : List ℕ) → get_or s 0 0 ≡ byte "%" → 2 < length s → hex_byte (get_or s 1 0) (get_or s 2 0) ≡ written_first s
+pub first_escaped : (s : List ℕ) → get_or s 0 0 ≡ byte "%" → 2 < length s → hex_byte (get_or s 1 0) (get_or s 2 0) ≡ written_first s
 unfolding written_first
-first-escaped s h l = rw (eq-eqb (get_or s 0 0) (byte "%") h, lt-ltb 2 (length s) l) refl
+first_escaped s h l = rw (eq-eqb (get_or s 0 0) (byte "%") h, lt-ltb 2 (length s) l) refl
 
 -- it takes at least one byte, and at most three
 width_of : (t : Bool) (a b c : ℕ) → (1 ≤ (cond t (hex_byte a b) (plain c)).width) × ((cond t (hex_byte a b) (plain c)).width ≤ 3)

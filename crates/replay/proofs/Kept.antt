@@ -1,5 +1,6 @@
 -- Parts of a block: where their bytes stand, and how they move to its start byte by byte.
-use Rattle.std.proofs.Common.{◌≡◌, ℕ, ◌+◌, ◌-◌, ◌<◌, ◌≤◌, List, ◌++◌, length, get_or, take, drop, set, sym, refl, ap, ◌∙◌, add_comm, add-one, arith, length-append, length-drop, take-append-drop, length-take, length-take-le, get_or-drop, take-suc, drop-drop, take-suc-set, drop-set-lt}
+use Rattle.std.proofs.Common.{◌≡◌, ℕ, ◌+◌, ◌-◌, ◌<◌, ◌≤◌, List, ◌++◌, length, take, drop, sym, ap, ◌∙◌, arith, length-append, length-drop, take-append-drop, length-take, length-take-le}
+use Rattle.std.specs.List.{copy_within}
 use borrow.Rule.Slice.PartMut.{put_mid, post_of, take_put}
 use lib.Seq.{take-append_seam}
 use Rattle.numbers.specs.declared.text.Span.{Span}
@@ -20,21 +21,17 @@ pub part_whole : (s : List ℕ) (p : Span) → take (length (spanned s p)) (drop
 unfolding spanned
 part_whole s p = take_again p.len (drop p.start s)
 
-module _ (s b : List ℕ) (start n : ℕ) (rest : drop n b ≡ drop n s) where
-  -- what was not yet written is as it was
-  kept_byte : get_or b (start + n) 0 ≡ get_or (drop start s) n 0
-  kept_byte =
-      ap (λ i. get_or b i 0) (add_comm start n) ∙ sym (get_or-drop n b start 0) ∙ ap (λ l. get_or l start 0) rest
-      ∙ get_or-drop n s start 0 ∙ ap (λ i. get_or s i 0) (add_comm n start) ∙ sym (get_or-drop start s n 0)
+-- one that has bytes ends within the block
+pub part_end : (s : List ℕ) (p : Span) (u : List ℕ) → u ≡ spanned s p → 0 < length u → p.start + length u ≤ length s
+part_end s p u e h = omega (arith, part_within s p u (length u - 1) e (omega (arith, h)))
 
-  -- one byte more stands at the start
-  pub kept_more : n < length b → n < length (drop start s) → take n b ≡ take n (drop start s)
-      → take (n + 1) (set b n (get_or b (start + n) 0)) ≡ take (n + 1) (drop start s)
-  kept_more h k e = rw (add-one n, take-suc-set b n (get_or b (start + n) 0) h, take-suc (drop start s) n 0 k, e, kept_byte) refl
-
-  -- and one less is as it was
-  pub rest_less : (v : ℕ) → drop (n + 1) (set b n v) ≡ drop (n + 1) s
-  rest_less v = drop-set-lt (n + 1) b n v (omega arith) ∙ sym (drop-drop 1 n b) ∙ ap (drop 1) rest ∙ drop-drop 1 n s
+-- moved to the block's start, it is there
+pub part_kept : (s : List ℕ) (p : Span) (u after : List ℕ) → u ≡ spanned s p
+    → after ≡ copy_within s p.start (p.start + length u) 0 → take (length u) after ≡ spanned s p
+part_kept s p u after e f =
+    let n : p.start + length u - p.start ≡ length u = omega arith in
+    let w : take (length u) (drop p.start s) ≡ u = ap (λ (l : List ℕ). take (length l) (drop p.start s)) e ∙ part_whole s p ∙ sym e in
+    rw (f, n) (ap (λ (l : List ℕ). take (length u) (l ++ drop (0 + length u) s)) w ∙ take-append_seam u (drop (0 + length u) s) ∙ e)
 
 -- what was kept stays at the start when more is read behind it
 pub refilled : (s m ys : List ℕ) (p : Span) (k g : ℕ) → k ≤ length m → k ≡ length (spanned s p) → take k m ≡ spanned s p → g ≤ length ys

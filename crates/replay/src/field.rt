@@ -21,14 +21,14 @@ pub fn end_at(s: &[u8], b: u8) -> usize
 }
 
 // What follows the first b, or nothing.
+#[tactic(auto, using(numbers::proofs::Places::index_within, crate::proofs::Decoded::after_none, crate::proofs::Decoded::after_some))]
 pub fn text_after(s: &[u8], b: u8) -> &[u8]
     ensures { result.now ≡ after b s.now }
 {
-    let end = find(s, b);
-    if end == s.len() {
-        return &s[end..];
+    match s.get(find(s, b) + 1..) {
+        Some(rest) => rest,
+        None => &[],
     }
-    &s[end + 1..]
 }
 
 // The first field.
@@ -45,24 +45,17 @@ pub fn after_field(s: &[u8]) -> &[u8]
     text_after(s, b'\t')
 }
 
+#[tactic(auto, using(crate::proofs::Decoded::first_empty, crate::proofs::Decoded::first_plain, crate::proofs::Decoded::first_short, crate::proofs::Decoded::first_escaped))]
 fn written_first(s: &[u8]) -> Written
     ensures { result ≡ written_first s.now }
 {
-    if s.len() == 0 {
-        return Written { byte: 0, width: 1 };
-    }
-    let b = s[0];
-    if b != b'%' {
-        return Written { byte: b, width: 1 };
-    }
-    if s.len() <= 2 {
-        return Written { byte: b, width: 1 };
-    }
-    let high = digit(s[1]) % 16;
-    let low = digit(s[2]) % 16;
-    Written {
-        byte: (high * 16 + low) as u8,
-        width: 3,
+    match s {
+        [b'%', high, low, ..] => Written {
+            byte: (digit(*high) % 16 * 16 + digit(*low) % 16) as u8,
+            width: 3,
+        },
+        [b, ..] => Written { byte: *b, width: 1 },
+        [] => Written { byte: 0, width: 1 },
     }
 }
 

@@ -4,4 +4,5 @@
 
 pub mod field;
 pub mod lines;
+pub mod list;
 pub mod tally;

@@ -22,6 +22,7 @@ impl Cursor {
     };
 }
 
+// No `Option`, since the end carries a number; no `Result`, since it is no error.
 #[derive(Clone, Copy)]
 pub enum Step {
     // A line without its LF, as a part of the block, and the cursor behind it.
@@ -41,6 +42,7 @@ pub fn open<R: Files>(rt: &R, path: &[u8]) -> io::Result<R::File>
 }
 
 // The first line of the unread bytes, if they have a whole one.
+#[tactic(auto, using(crate::proofs::FirstLine::line_none, crate::proofs::FirstLine::line_some, crate::proofs::FirstLine::line_short, crate::proofs::FirstLine::line_within))]
 fn line_in(block: &[u8], cursor: Cursor) -> Step
     ensures { result ≡ line_in block.now cursor }
 {
@@ -50,17 +52,11 @@ fn line_in(block: &[u8], cursor: Cursor) -> Step
     if len == unread.len() {
         return Step::End(len);
     }
-    let behind = start + len + 1;
-    let rest = unread.len() - len - 1;
-    Step::Line(
-        Span { start, len },
-        Cursor {
-            unread: Span {
-                start: behind,
-                len: rest,
-            },
-        },
-    )
+    let behind = Span {
+        start: start + len + 1,
+        len: unread.len() - len - 1,
+    };
+    Step::Line(Span { start, len }, Cursor { unread: behind })
 }
 
 // Moves a part of the block to its start; how many bytes that has.
@@ -69,14 +65,12 @@ fn keep(block: &mut [u8], part: Span) -> usize
     ensures value { result ≡ length (spanned block.old part) }
     ensures block_after { take result block.new ≡ spanned block.old part }
 {
-    let start = part.start;
     let len = span_bytes(block, part).len();
-    let mut n = 0;
-    while n < len {
-        block[n] = block[start + n];
-        n += 1;
+    // A part without bytes may stand beyond the block.
+    if 0 < len {
+        block.copy_within(part.start..part.start + len, 0);
     }
-    n
+    len
 }
 
 // Reads until buf is full or the list ends; how many bytes that is.
@@ -113,12 +107,8 @@ pub fn next_line<R: Read>(reader: &mut R, block: &mut [u8], cursor: Cursor) -> i
         Step::Line(line, next) => Ok(Step::Line(line, next)),
         Step::End(_) => {
             let len = refill(reader, block, cursor.unread)?;
-            Ok(line_in(
-                block,
-                Cursor {
-                    unread: Span { start: 0, len },
-                },
-            ))
+            let unread = Span { start: 0, len };
+            Ok(line_in(block, Cursor { unread }))
         }
     }
 }

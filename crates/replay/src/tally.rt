@@ -26,27 +26,22 @@ impl Tally {
     pub fn with(self, agrees: bool) -> Tally
         ensures { result ≡ tallied self agrees }
     {
-        let agreed = self.agreed;
-        let first = self.first;
         if agrees {
             return Tally {
-                agreed: agreed.wrapping_add(1),
-                differed: self.differed,
-                first,
+                agreed: self.agreed.wrapping_add(1),
+                ..self
             };
         }
         let differed = self.differed.wrapping_add(1);
-        if first == 0 {
-            return Tally {
-                agreed,
-                differed,
-                first: agreed.wrapping_add(differed),
-            };
-        }
+        let first = if self.first == 0 {
+            self.agreed.wrapping_add(differed)
+        } else {
+            self.first
+        };
         Tally {
-            agreed,
             differed,
             first,
+            ..self
         }
     }
 }

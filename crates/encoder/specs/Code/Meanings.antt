@@ -1,19 +1,15 @@
 -- What the code's answers stand for.
 use Rattle.std.specs.Prelude.{ℕ}
-use Rattle.numbers.specs.Results.{Result, value, refused}
-use Rattle.encoder.specs.declared.Encoded.{Encoded}
-use Rattle.encoder.specs.declared.Encoded.TheVariants.{Word, BadRegister, BadField}
-use Rattle.encoder.specs.declared.sequences.Put.{Put}
-use Rattle.encoder.specs.declared.sequences.Put.TheVariants as put
+use Rattle.std.specs.Prelude.{Result, Ok, Err}
+use Rattle.encoder.specs.declared.error.EncodeError.{EncodeError}
+use Rattle.encoder.specs.declared.error.EncodeError.TheVariants.{BadRegister, BadField}
+
+-- a refusal's number: "22 register above 31", "23" of a field
+abbrev pub refusal_number : EncodeError → ℕ
+refusal_number BadRegister = 22
+refusal_number BadField = 23
 
 -- "both from the encoder alone, line 0": the encoder sees no lines
-abbrev pub encoded_result : Encoded → Result ℕ ℕ
-encoded_result (Word w) = value w
-encoded_result BadRegister = refused 22
-encoded_result BadField = refused 23
-
--- of instructions: how many words, or the same refusals
-abbrev pub put_result : Put → Result ℕ ℕ
-put_result (put.Words n) = value n
-put_result put.BadRegister = refused 22
-put_result put.BadField = refused 23
+abbrev pub numbered : {A : Type 0} → Result A EncodeError → Result A ℕ
+numbered (Ok a) = Ok a
+numbered (Err e) = Err (refusal_number e)

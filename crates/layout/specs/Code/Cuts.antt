@@ -1,8 +1,8 @@
 -- A line as one scan cuts it: its end, its statement, the first mark in that, and its parts.
 use Rattle.std.specs.Prelude.{ℕ, ◌+◌, ◌-◌, ◌≤◌, ◌≡◌, List, Bool, true, false, cond, ◌&&◌, ◌||◌, ltb, eqb, length, take, drop}
-use Rattle.std.proofs.Math.Option.{Option, none, some}
+use Rattle.std.specs.Prelude.{Option, None, Some}
 use Rattle.numbers.specs.declared.text.Span.{Span}
-use Rattle.numbers.specs.Results.{Result, value}
+use Rattle.std.specs.Prelude.{Result, Ok}
 use Rattle.numbers.specs.Text.{byte, index_of}
 use Rattle.numbers.specs.Code.Spans.{spanned}
 use Rattle.layout.specs.declared.state.Section.{Section}
@@ -58,8 +58,8 @@ is_text (directive.Stores (Text zeros)) = true
 is_text (directive.Stores Float) = false
 
 abbrev pub is_string_row : Option Row → Bool
-is_string_row none = false
-is_string_row (some r) = is_text r.directive
+is_string_row None = false
+is_string_row (Some r) = is_text r.directive
 
 -- in data: does a statement begin with a string directive, and has it a quote before its first colon? That colon ends no label then
 abbrev pub is_bare : Section → List ℕ → Bool
@@ -69,7 +69,7 @@ is_bare section.Bss s = false
 
 -- its label, if its first colon ends one, and what follows that
 abbrev pub label_by : Section → Piece → Option Piece
-label_by s p = cond (is_bare s p.bytes) none (label_in p)
+label_by s p = cond (is_bare s p.bytes) None (label_in p)
 
 abbrev pub rest_by : Section → Piece → Piece
 rest_by s p = cond (is_bare s p.bytes) p (after_label p p)
@@ -91,15 +91,15 @@ pub record Follows (t : List ℕ) (c : Cut) (q : Span) : Type 0 where
 abbrev pub quote_between : List ℕ → ℕ → ℕ → Bool
 quote_between t from to = ltb (index_of (byte "\"") (take (to - from) (drop from t))) (length (take (to - from) (drop from t)))
 
-abbrev pub ended_by : Option OwnStatement → Result ℕ Statement → Result ℕ Statement
-ended_by none x = x
-ended_by (some y) x = value (own y)
+abbrev pub ended_by : Option OwnStatement → Result Statement ℕ → Result Statement ℕ
+ended_by None x = x
+ended_by (Some y) x = Ok (own y)
 
 -- what a statement says in a line: a string's operand runs to the line's end, but behind a label with a quote
-abbrev pub to_line_end : Bool → Piece → Result ℕ Statement → Result ℕ Statement
+abbrev pub to_line_end : Bool → Piece → Result Statement ℕ → Result Statement ℕ
 to_line_end true l x = x
 to_line_end false l x = ended_by (string_in l x) x
 
 -- what a part of a cut line says
-abbrev pub says_in : List ℕ → Cut → Span → Result ℕ Statement → Result ℕ Statement
+abbrev pub says_in : List ℕ → Cut → Span → Result Statement ℕ → Result Statement ℕ
 says_in t c q x = to_line_end (quote_between t c.part.start q.start) (cut_line t c) x

@@ -1,9 +1,8 @@
 -- The items' words: what emitting them asks of the buffers, and what it leaves.
 use Rattle.std.specs.Prelude.{ℕ, ◌≤◌, ◌≡◌, List, [], length, replicate}
-use Rattle.numbers.specs.Results.{Result}
+use Rattle.std.specs.Prelude.{Result}
 use Rattle.layout.specs.declared.addresses.Starts.{Starts}
 use Rattle.layout.specs.declared.limits.Room.{Room}
-use Rattle.layout.specs.declared.state.Total.{Total}
 use Rattle.layout.specs.Refusals.{Refusal}
 use Rattle.layout.specs.Bytes.{padded}
 use Rattle.layout.specs.Records.{table_of}
@@ -11,10 +10,12 @@ use Rattle.layout.specs.Addresses.{label_address}
 use Rattle.layout.specs.Rounds.{constant}
 use Rattle.layout.specs.Layouts.{item_row, Emitted, emit}
 use Rattle.layout.specs.Code.Steps.{Agrees}
-use Rattle.layout.specs.Code.Stands.{ItemsStand, total_of}
+use Rattle.layout.specs.Code.Stands.{ItemsStand}
 use Rattle.layout.specs.Code.Lent.{OverCall}
 use Rattle.layout.specs.Code.Placed.{StartsAt}
 use Rattle.layout.specs.Code.Names.{Scope, NamesStand}
+use Rattle.layout.specs.declared.refusal.RefusedAt.{RefusedAt}
+use Rattle.layout.specs.Code.Numbers.{numbered_at}
 
 -- names, where the sections start, the items as the lines left them, and words of zeros with room for what they reserve
 pub record Unemitted (t l n : List ℕ) (c : ℕ) (e x : List ℕ) (m : ℕ) (starts : Starts) (i : List ℕ) (count : ℕ) (w : List ℕ) : Type 0 where
@@ -28,7 +29,7 @@ pub record Unemitted (t l n : List ℕ) (c : ℕ) (e x : List ℕ) (m : ℕ) (st
   pub lent : room.words ≤ length w
 
 -- what the items emit by the names in a scope
-abbrev pub emitted_in : Scope → Result Refusal Emitted
+abbrev pub emitted_in : Scope → Result Emitted Refusal
 emitted_in s = emit s.base (constant s.known) (label_address s.base s.state) s.state.rest.own.items.list [] []
 
 -- words and items are what the definition emits
@@ -41,7 +42,7 @@ pub record EmitLeft (i w : List ℕ) (n : ℕ) (y : Emitted) : Type 0 where
 abbrev pub EmitReady : List ℕ → List ℕ → List ℕ → ℕ → List ℕ → List ℕ → ℕ → Starts → List ℕ → ℕ → List ℕ → Type 0
 EmitReady t l n c e x m starts i count w = Unemitted t l n c e x m starts i count w
 
-abbrev pub Emits : List ℕ → List ℕ → List ℕ → ℕ → List ℕ → List ℕ → ℕ → Starts → OverCall → ℕ → OverCall → Total → Type 0
+abbrev pub Emits : List ℕ → List ℕ → List ℕ → ℕ → List ℕ → List ℕ → ℕ → Starts → OverCall → ℕ → OverCall → Result ℕ RefusedAt → Type 0
 Emits t l n c e x m starts i count w r =
     (u : EmitReady t l n c e x m starts i.entry.now count w.entry.now)
-    → Agrees (EmitLeft i.exit.now w.exit.now) (total_of r) (emitted_in u.scope)
+    → Agrees (EmitLeft i.exit.now w.exit.now) (numbered_at r) (emitted_in u.scope)

@@ -1,34 +1,27 @@
 -- Names while the equates are resolved: equates with what is found of them so far, labels with their addresses, and the look-up in both.
 use Rattle.std.specs.Prelude.{ℕ, ◌≤◌, ◌≡◌, List, map, true, length, ℤ, pos}
-use Rattle.std.proofs.Math.Option.{Option, none, some}
+use Rattle.std.specs.Prelude.{Option, None, Some}
 use Rattle.numbers.specs.Ints.{in64}
-use Rattle.layout.specs.declared.equates.Value.{Value}
-use Rattle.layout.specs.declared.equates.Value.TheVariants as variant
 use Rattle.layout.specs.Limits.{text_limit, equate_limit}
 use Rattle.layout.specs.State.{State}
 use Rattle.layout.specs.Rounds.{Found, Known, look}
 use Rattle.layout.specs.Records.{RecordField, equate_record, equate_fields, table_of}
-use Rattle.layout.specs.Code.Steps.{Some}
+use Rattle.layout.specs.Code.Steps.{Exists}
 use Rattle.layout.specs.Code.Fits.{Each, EquateFits}
 use Rattle.layout.specs.Code.Index.{Indexed}
 use Rattle.layout.specs.Code.Stands.{label_store}
 use Rattle.layout.specs.Code.Placed.{LabelsPlaced}
 
--- a value, or none
-abbrev pub value_of : Value → Option ℤ
-value_of (variant.Is z) = some z
-value_of variant.Nothing = none
-
 -- ---- equates
 
 -- value and round as a record has them: 0 while the equate is pending
 abbrev pub value_so_far : Option Found → ℤ
-value_so_far none = pos 0
-value_so_far (some f) = f.value
+value_so_far None = pos 0
+value_so_far (Some f) = f.value
 
 abbrev pub round_so_far : Option Found → ℕ
-round_so_far none = 0
-round_so_far (some f) = f.round
+round_so_far None = 0
+round_so_far (Some f) = f.round
 
 abbrev pub known_fields : Known → List RecordField
 known_fields k = equate_fields (equate_record k.equate.name k.equate.line (value_so_far k.found) (round_so_far k.found))
@@ -43,8 +36,8 @@ pub record FoundFits (f : Found) : Type 0 where
   pub value : in64 f.value ≡ true
 
 abbrev pub MaybeFits : Option Found → Type 0
-MaybeFits none = Unit
-MaybeFits (some f) = FoundFits f
+MaybeFits None = Unit
+MaybeFits (Some f) = FoundFits f
 
 pub record KnownFits (t : List ℕ) (k : Known) : Type 0 where
   pub equate : EquateFits t k.equate
@@ -80,7 +73,7 @@ pub record NamesStand (t l n : List ℕ) (c : ℕ) (e x : List ℕ) (m : ℕ) (s
 
 -- what is lent stands for something: labels' records and index, equates' records and index
 abbrev pub NamesReady : List ℕ → List ℕ → List ℕ → ℕ → List ℕ → List ℕ → ℕ → Type 0
-NamesReady t l n c e x m = Some (NamesStand t l n c e x m)
+NamesReady t l n c e x m = Exists (NamesStand t l n c e x m)
 
 -- P holds of whatever it stands for
 abbrev pub NamesKnown : List ℕ → List ℕ → List ℕ → ℕ → List ℕ → List ℕ → ℕ → (Scope → Type 0) → Type 0

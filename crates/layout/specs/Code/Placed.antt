@@ -1,13 +1,10 @@
 -- Addresses in the code: where the sections start, the labels' records with their addresses, and what filling label words comes to.
+use Rattle.std.specs.Prelude.{Result}
 use Rattle.std.specs.Prelude.{ℕ, ◌≤◌, ◌≡◌, List, map, length}
-use Rattle.std.proofs.Math.Option.{Option, none, some}
 use Rattle.layout.specs.declared.limits.Room.{Room}
 use Rattle.layout.specs.declared.addresses.Starts.{Starts}
-use Rattle.layout.specs.declared.addresses.Address.{Address}
-use Rattle.layout.specs.declared.addresses.Address.TheVariants as address
 use Rattle.layout.specs.declared.state.Section.TheVariants as section
 use Rattle.layout.specs.declared.state.Place.{Place}
-use Rattle.layout.specs.declared.state.Total.{Total}
 use Rattle.layout.specs.Limits.{base_limit, text_limit, data_limit}
 use Rattle.layout.specs.Bytes.{padded}
 use Rattle.layout.specs.State.{State}
@@ -15,9 +12,11 @@ use Rattle.layout.specs.Addresses.{section_start, placed, label_address, fill}
 use Rattle.layout.specs.Code.Places.{place_code, PlaceFits}
 use Rattle.layout.specs.Code.Index.{Indexed, Distinct}
 use Rattle.layout.specs.Code.Steps.{Agrees}
-use Rattle.layout.specs.Code.Stands.{LabelStore, label_store, data_store, label_name, LabelsStand, StoredStand, total_of}
+use Rattle.layout.specs.Code.Stands.{LabelStore, label_store, data_store, label_name, LabelsStand, StoredStand}
 use Rattle.layout.specs.Code.Lent.{OverCall}
 use Rattle.layout.specs.Code.Orders.{LabelTable}
+use Rattle.layout.specs.declared.refusal.RefusedAt.{RefusedAt}
+use Rattle.layout.specs.Code.Numbers.{numbered_at}
 
 -- where the sections start: the one place where the base comes in
 pub record StartsAt (s : Starts) (base : ℕ) (σ : State) : Type 0 where
@@ -60,10 +59,6 @@ abbrev pub Places : OverCall → ℕ → Starts → Type 0
 Places l count s =
     (u : Unplaced l.entry.now count s) → LabelsPlaced u.text u.base u.state count (label_store l.exit.now u.index)
 
-abbrev pub address_found : Address → Option ℕ
-address_found (address.At a) = some a
-address_found address.Nothing = none
-
 -- P holds of every base and state whose labels these are, with their addresses
 abbrev pub WherePlaced : List ℕ → List ℕ → List ℕ → ℕ → (ℕ → State → Type 0) → Type 0
 WherePlaced t l n count P =
@@ -89,8 +84,8 @@ pub record FillLeft (words : ℕ) (d : List ℕ) (n : ℕ) (bytes : List ℕ) : 
 abbrev pub FillReady : List ℕ → List ℕ → List ℕ → ℕ → List ℕ → ℕ → List ℕ → Type 0
 FillReady t l n count w words d = Unfilled t l n count w words d
 
-abbrev pub Fills : List ℕ → List ℕ → List ℕ → ℕ → List ℕ → ℕ → OverCall → Total → Type 0
+abbrev pub Fills : List ℕ → List ℕ → List ℕ → ℕ → List ℕ → ℕ → OverCall → Result ℕ RefusedAt → Type 0
 Fills t l n count w words d r =
     (u : FillReady t l n count w words d.entry.now)
-    → Agrees (FillLeft words d.exit.now) (total_of r)
+    → Agrees (FillLeft words d.exit.now) (numbered_at r)
     (fill (label_address u.base u.state) u.state.rest.own.stored.label_words u.state.rest.own.stored.bytes)

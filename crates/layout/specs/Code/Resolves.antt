@@ -1,14 +1,15 @@
 -- The rounds in code: an equate's turn, an equate that has waited, and what the rounds leave.
+use Rattle.std.specs.Prelude.{Ok, Err}
+use Rattle.std.specs.Prelude.{Result}
 use Rattle.std.specs.Prelude.{ℕ, ◌+◌, ◌*◌, ◌≤◌, ◌≡◌, List, [], map, false, pos, length, get_or, set}
-use Rattle.std.proofs.Math.Option.{none}
+use Rattle.std.specs.Prelude.{None}
 use Rattle.numbers.specs.Ints.{bits, signed_of}
 use Rattle.layout.specs.declared.addresses.Starts.{Starts}
 use Rattle.layout.specs.declared.expr.Partial.{Partial}
 use Rattle.layout.specs.declared.expr.Evaluated as answer
-use Rattle.layout.specs.declared.expr.Evaluated.TheVariants.{Value, Waits, Refused}
+use Rattle.layout.specs.declared.expr.Evaluated.TheVariants.{Value, Waits}
 use Rattle.layout.specs.declared.rounds.Evaluation.{Evaluation}
 use Rattle.layout.specs.declared.state.Section.TheVariants as section
-use Rattle.layout.specs.declared.state.Total.{Total}
 use Rattle.layout.specs.Pieces.{piece}
 use Rattle.layout.specs.State.{Equate, State}
 use Rattle.layout.specs.Stage.{is_label}
@@ -16,12 +17,14 @@ use Rattle.layout.specs.Records.{RecordField, table_of}
 use Rattle.layout.specs.Addresses.{address_at}
 use Rattle.layout.specs.Rounds.{Known, pending_equate, constant, look, is_some, turn, Turns}
 use Rattle.layout.specs.Layouts.{resolve}
-use Rattle.layout.specs.Code.Steps.{Some, Agrees}
-use Rattle.layout.specs.Code.Stands.{expr_so_far, total_of}
+use Rattle.layout.specs.Code.Steps.{Exists, Agrees}
+use Rattle.layout.specs.Code.Stands.{expr_so_far}
 use Rattle.layout.specs.Code.Lent.{OverCall}
 use Rattle.layout.specs.Code.Placed.{StartsAt}
 use Rattle.layout.specs.Code.Names.{EquateTable, Scope, NamesStand}
 use Rattle.layout.specs.Code.Terms.{evaluated_of, sum_on, Extends, TermWaits}
+use Rattle.layout.specs.declared.refusal.RefusedAt.{RefusedAt}
+use Rattle.layout.specs.Code.Numbers.{numbered, numbered_at}
 
 -- ---- an equate's turn
 
@@ -44,7 +47,7 @@ no_known =
         place = record { section = section.Text; offset = 0 };
         line = 0;
       };
-      found = none;
+      found = None;
     }
 
 abbrev pub known_at : List Known → ℕ → Known
@@ -63,15 +66,15 @@ pub record Blocked (s : Scope) (e : Equate) (p : Partial) : Type 0 where
       ≡ sum_on e.expr.one_space e.expr.source.bytes (pos (address_at s.base s.state e.place)) p (look s.base s.state ks)
 
 -- the same, and its sum has come as far as it can: to a term without a value
-abbrev pub BlockedBy : Scope → Equate → answer.Evaluated → Type 0
-BlockedBy s e (Value z) = Unit
-BlockedBy s e (Waits p) =
+abbrev pub BlockedBy : Scope → Equate → Result answer.Evaluated ℕ → Type 0
+BlockedBy s e (Ok (Value z)) = Unit
+BlockedBy s e (Ok (Waits p)) =
     TermWaits (look s.base s.state s.known) e.expr.one_space e.expr.source.bytes (pos (address_at s.base s.state e.place)) p.at
     × Blocked s e p
-BlockedBy s e (Refused n) = Unit
+BlockedBy s e (Err n) = Unit
 
 -- an answer is the equate's turn; where it waits, it says from where it goes on
-pub record TurnGives (s : Scope) (e : Equate) (r : answer.Evaluated) : Type 0 where
+pub record TurnGives (s : Scope) (e : Equate) (r : Result answer.Evaluated ℕ) : Type 0 where
   pub answers : evaluated_of r ≡ turn s.base s.state s.known e
   pub blocked : BlockedBy s e r
 
@@ -86,7 +89,7 @@ pub record TurnAgain (t l n : List ℕ) (c : ℕ) (starts : Starts) (e x : List 
 -- ---- said of the references lent
 
 abbrev pub TurnReady : List ℕ → List ℕ → List ℕ → ℕ → Starts → List ℕ → List ℕ → ℕ → List ℕ → Type 0
-TurnReady t l n c starts e x m exprs = Some (TurnStand t l n c starts e x m exprs)
+TurnReady t l n c starts e x m exprs = Exists (TurnStand t l n c starts e x m exprs)
 
 abbrev pub TurnKnown : List ℕ → List ℕ → List ℕ → ℕ → Starts → List ℕ → List ℕ → ℕ → List ℕ → (Scope → Type 0) → Type 0
 TurnKnown t l n c starts e x m exprs P =
@@ -95,7 +98,7 @@ TurnKnown t l n c starts e x m exprs P =
 
 abbrev pub AgainReady : List ℕ → List ℕ → List ℕ → ℕ → Starts → List ℕ → List ℕ → ℕ → List ℕ → ℕ → ℕ → Partial → Type 0
 AgainReady t l n c starts e x m exprs round k p =
-    Some (TurnAgain t l n c starts e x m exprs round k p)
+    Exists (TurnAgain t l n c starts e x m exprs round k p)
 
 abbrev pub AgainKnown : List ℕ → List ℕ → List ℕ → ℕ → Starts → List ℕ → List ℕ → ℕ → List ℕ → ℕ → ℕ → Partial → (Scope → Type 0)
     → Type 0
@@ -105,7 +108,7 @@ AgainKnown t l n c starts e x m exprs round k p P =
 
 -- an evaluation: the turn, and one evaluation more
 pub record EvaluationGives (s : Scope) (e : Equate) (evaluations : ℕ) (r : Evaluation) : Type 0 where
-  pub gives : TurnGives s e r.answer
+  pub gives : TurnGives s e (numbered r.answer)
   pub counted : r.evaluations ≡ evaluations + 1
 
 -- ---- the table of how far the sums have come
@@ -137,7 +140,7 @@ pub record ResolveLeft (t e x : List ℕ) (m n : ℕ) (y : Turns) : Type 0 where
   pub evaluations : n ≡ y.evaluations
   pub equates : EquateTable t e x m y.known
 
-abbrev pub Resolves : List ℕ → List ℕ → List ℕ → ℕ → Starts → OverCall → List ℕ → ℕ → List ℕ → OverCall → Total → Type 0
+abbrev pub Resolves : List ℕ → List ℕ → List ℕ → ℕ → Starts → OverCall → List ℕ → ℕ → List ℕ → OverCall → Result ℕ RefusedAt → Type 0
 Resolves t l n c starts e x m exprs partials r =
     (s : ResolveReady t l n c starts e.entry.now x m exprs partials.entry.now)
-    → Agrees (ResolveLeft t e.exit.now x m) (total_of r) (resolve s.base s.state s.state.rest.equates)
+    → Agrees (ResolveLeft t e.exit.now x m) (numbered_at r) (resolve s.base s.state s.state.rest.equates)

@@ -1,7 +1,7 @@
 -- The rows of the table of directives as the code has them, and its answers about zeros.
 use Rattle.std.specs.Prelude.{ℕ, zero, suc, ◌≤◌, List, [], ◌∷◌, map, cond, length}
-use Rattle.std.proofs.Math.Option.{Option, none, some}
-use Rattle.numbers.specs.Results.{Result, value, refused}
+use Rattle.std.specs.Prelude.{Option, None, Some}
+use Rattle.std.specs.Prelude.{Result, Ok, Err}
 use Rattle.numbers.specs.Code.Tables.{row_of, prefix_slot, TableOf}
 use Rattle.layout.specs.declared.directives.Width.TheVariants.{Byte, Half, Word, Dword}
 use Rattle.layout.specs.declared.directives.Reserve.TheVariants.{Space, Align}
@@ -11,13 +11,11 @@ use Rattle.layout.specs.declared.directives.Source.{Source}
 use Rattle.layout.specs.declared.directives.Source.TheVariants as source
 use Rattle.layout.specs.declared.directives.Directive.{Directive}
 use Rattle.layout.specs.declared.directives.Directive.TheVariants.{Symbol, Ignored, Equate, Reserves, Stores}
-use Rattle.layout.specs.declared.directives.Spelled.{Spelled}
-use Rattle.layout.specs.declared.directives.Spelled.TheVariants as spelled
 use Rattle.layout.specs.declared.directives.Reservation.{Reservation}
 use Rattle.layout.specs.declared.directives.Reservation.TheVariants.{Zeros, Aligns}
-use Rattle.layout.specs.declared.directives.Reserved.{Reserved}
-use Rattle.layout.specs.declared.directives.Reserved.TheVariants as reserved
 use Rattle.layout.specs.Directives.{Row, directives}
+use Rattle.layout.specs.declared.refusal.Refusal as code
+use Rattle.layout.specs.declared.directives.Spelling.{Spelling}
 
 -- a directive as a number in a row; a string that adds more than one byte 0 is none
 abbrev pub directive_number : Directive → ℕ
@@ -43,9 +41,9 @@ directive_row r = row_of r.name (length r.name ∷ directive_number r.directive 
 abbrev pub DirectiveNames : List ℕ → Type 0
 DirectiveNames t = TableOf prefix_slot (map directive_row directives) t
 
-abbrev pub row_code : Option Row → Spelled
-row_code none = spelled.Nothing
-row_code (some r) = spelled.As (record { directive = r.directive; len = length r.name; in_data = r.in_data })
+abbrev pub row_code : Option Row → Option Spelling
+row_code None = None
+row_code (Some r) = Some (record { directive = r.directive; len = length r.name; in_data = r.in_data })
 
 -- a string adds one byte 0 at most
 abbrev pub FewZeros : Store → Type 0
@@ -66,21 +64,17 @@ DirectiveFits Equate = Unit
 DirectiveFits (Reserves x) = Unit
 DirectiveFits (Stores x) = FewZeros x
 
-abbrev pub SpelledWithin : Spelled → ℕ → Type 0
-SpelledWithin (spelled.As s) n = (s.len ≤ n) × DirectiveFits s.directive
-SpelledWithin spelled.Nothing n = Unit
+abbrev pub SpelledWithin : Option Spelling → ℕ → Type 0
+SpelledWithin (Some s) n = (s.len ≤ n) × DirectiveFits s.directive
+SpelledWithin None n = Unit
 
 -- ---- zeros
-
-abbrev pub reserved_of : Reserved → Result ℕ Reservation
-reserved_of (reserved.As r) = value r
-reserved_of (reserved.Refused n) = refused n
 
 -- a size of 32 bits; an alignment is 1 at least
 abbrev pub Small : Reservation → Type 0
 Small (Zeros n) = n ≤ 4294967296
 Small (Aligns n) = (1 ≤ n) × (n ≤ 4294967296)
 
-abbrev pub ReservedSmall : Reserved → Type 0
-ReservedSmall (reserved.As r) = Small r
-ReservedSmall (reserved.Refused n) = Unit
+abbrev pub ReservedSmall : Result Reservation code.Refusal → Type 0
+ReservedSmall (Ok r) = Small r
+ReservedSmall (Err n) = Unit

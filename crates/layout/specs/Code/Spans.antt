@@ -1,7 +1,7 @@
 -- How the code names a piece of the text: by its span; and a line's label and statement, by the spans of their pieces.
-use Rattle.std.specs.Prelude.{ℕ, ◌+◌, ◌-◌, ◌≤◌, ◌<◌, List, length, take, drop}
-use Rattle.std.proofs.Math.Option.{Option, none, some}
-use Rattle.numbers.specs.Results.{Result, value, refused}
+use Rattle.std.specs.Prelude.{◌≡◌, ℕ, ◌+◌, ◌-◌, ◌≤◌, ◌<◌, List, length, take, drop}
+use Rattle.std.specs.Prelude.{◌≡◌, Option, None, Some}
+use Rattle.std.specs.Prelude.{◌≡◌, Result, Ok, Err}
 use Rattle.numbers.specs.declared.text.Span.{Span}
 use Rattle.numbers.specs.Code.Spans.{spanned}
 use Rattle.layout.specs.declared.state.Place.{Place}
@@ -11,14 +11,13 @@ use Rattle.layout.specs.declared.line.OwnStatement as own_statement
 use Rattle.layout.specs.declared.line.OwnStatement.TheVariants as own_kind
 use Rattle.layout.specs.declared.line.Statement as code
 use Rattle.layout.specs.declared.line.Statement.TheVariants as kind
-use Rattle.layout.specs.declared.line.LabelPart as label
-use Rattle.layout.specs.declared.line.LabelPart.TheVariants as part
 use Rattle.layout.specs.declared.line.Line as line
 use Rattle.layout.specs.Limits.{text_limit}
 use Rattle.layout.specs.Pieces.{Piece, piece}
 use Rattle.layout.specs.Statements.{OwnStatement, item, stores, string, reserves, reserves_bss, Statement, nothing, enters, equate, own, Line}
 use Rattle.layout.specs.State.{Equate}
 use Rattle.layout.specs.Code.Rows.{SourceFits}
+use Rattle.layout.specs.Code.Numbers.{numbered}
 
 abbrev pub span_of : Piece → Span
 span_of p = record { start = p.at; len = length p.bytes }
@@ -46,12 +45,12 @@ own_code (string zeros p) = own_kind.InData (source.String zeros) (span_of p)
 own_code (reserves x p) = own_kind.InData (source.Reserves x) (span_of p)
 own_code (reserves_bss x p) = own_kind.ReservesBss x (span_of p)
 
-abbrev pub statement_code : Result ℕ Statement → code.Statement
-statement_code (value nothing) = kind.Nothing
-statement_code (value (enters s)) = kind.Enters s
-statement_code (value (equate n e)) = kind.Equate (record { name = span_of n; expr = span_of e.source; one_space = e.one_space })
-statement_code (value (own s)) = kind.Own (own_code s)
-statement_code (refused n) = kind.Refused n
+abbrev pub statement_code : Result Statement ℕ → Result code.Statement ℕ
+statement_code (Ok nothing) = Ok kind.Nothing
+statement_code (Ok (enters s)) = Ok (kind.Enters s)
+statement_code (Ok (equate n e)) = Ok (kind.Equate (record { name = span_of n; expr = span_of e.source; one_space = e.one_space }))
+statement_code (Ok (own s)) = Ok (kind.Own (own_code s))
+statement_code (Err n) = Err n
 
 -- and back, where its spans lie within the text
 abbrev pub own_at : List ℕ → own_statement.OwnStatement → OwnStatement
@@ -61,13 +60,12 @@ own_at t (own_kind.InData (source.String zeros) q) = string zeros (piece_at t q)
 own_at t (own_kind.InData (source.Reserves x) q) = reserves x (piece_at t q)
 own_at t (own_kind.ReservesBss x q) = reserves_bss x (piece_at t q)
 
-abbrev pub statement_at : List ℕ → code.Statement → Result ℕ Statement
-statement_at t kind.Nothing = value nothing
-statement_at t (kind.Enters s) = value (enters s)
+abbrev pub statement_at : List ℕ → code.Statement → Statement
+statement_at t kind.Nothing = nothing
+statement_at t (kind.Enters s) = enters s
 statement_at t (kind.Equate e) =
-    value (equate (piece_at t e.name) (record { source = piece_at t e.expr; one_space = e.one_space }))
-statement_at t (kind.Own s) = value (own (own_at t s))
-statement_at t (kind.Refused n) = refused n
+    equate (piece_at t e.name) (record { source = piece_at t e.expr; one_space = e.one_space })
+statement_at t (kind.Own s) = own (own_at t s)
 
 -- an equate by its parts
 abbrev pub equate_at : List ℕ → Place → ℕ → EquateParts → Equate
@@ -89,21 +87,22 @@ StatementWithin t kind.Nothing = Unit
 StatementWithin t (kind.Enters s) = Unit
 StatementWithin t (kind.Equate e) = SpanWithin t e.name × SpanWithin t e.expr
 StatementWithin t (kind.Own s) = OwnWithin t s
-StatementWithin t (kind.Refused n) = Unit
 
 -- ---- labels and lines
 
-abbrev pub label_part_of : Option Piece → label.LabelPart
-label_part_of none = part.Unnamed
-label_part_of (some p) = part.Named (span_of p)
+abbrev pub label_part_of : Option Piece → Option Span
+label_part_of None = None
+label_part_of (Some p) = Some (span_of p)
 
-abbrev pub label_part_at : List ℕ → label.LabelPart → Option Piece
-label_part_at t part.Unnamed = none
-label_part_at t (part.Named q) = some (piece_at t q)
+abbrev pub label_part_at : List ℕ → Option Span → Option Piece
+label_part_at t None = None
+label_part_at t (Some q) = Some (piece_at t q)
 
-abbrev pub LabelWithin : List ℕ → label.LabelPart → Type 0
-LabelWithin t (part.Named q) = SpanWithin t q
-LabelWithin t part.Unnamed = Unit
+abbrev pub LabelWithin : List ℕ → Option Span → Type 0
+LabelWithin t (Some q) = SpanWithin t q
+LabelWithin t None = Unit
 
-abbrev pub line_code : Line → line.Line
-line_code l = record { label = label_part_of l.label; says = statement_code l.says }
+-- a line's label and what it says
+pub record LineStands (r : line.Line) (l : Line) : Type 0 where
+  pub label : r.label ≡ label_part_of l.label
+  pub says : numbered r.says ≡ statement_code l.says

@@ -1,6 +1,5 @@
 -- How the line stage's counters and buffers stand for what has been laid out, part by part, and what its answers mean.
 use Rattle.std.specs.Prelude.{ℕ, ◌+◌, ◌*◌, ◌≤◌, ◌≡◌, List, map, length, pos}
-use Rattle.numbers.specs.Results.{Result, value, refused}
 use Rattle.numbers.specs.Code.Spans.{spanned}
 use Rattle.layout.specs.declared.limits.Room.{Room}
 use Rattle.layout.specs.declared.records.LabelWordRecord.{LabelWordRecord}
@@ -12,24 +11,7 @@ use Rattle.layout.specs.declared.state.DataCount.{DataCount}
 use Rattle.layout.specs.declared.state.OwnCounters.{OwnCounters}
 use Rattle.layout.specs.declared.state.RestCounters.{RestCounters}
 use Rattle.layout.specs.declared.state.Counters.{Counters}
-use Rattle.layout.specs.declared.state.Count.{Count}
-use Rattle.layout.specs.declared.state.Count.TheVariants as count
-use Rattle.layout.specs.declared.state.ItemStep.{ItemStep}
-use Rattle.layout.specs.declared.state.ItemStep.TheVariants as item-step
-use Rattle.layout.specs.declared.state.DataStep.{DataStep}
-use Rattle.layout.specs.declared.state.DataStep.TheVariants as data_step
-use Rattle.layout.specs.declared.state.OwnStep.{OwnStep}
-use Rattle.layout.specs.declared.state.OwnStep.TheVariants as own-step
-use Rattle.layout.specs.declared.state.RestStep.{RestStep}
-use Rattle.layout.specs.declared.state.RestStep.TheVariants as rest_step
-use Rattle.layout.specs.declared.state.Step.{Step}
-use Rattle.layout.specs.declared.state.Step.TheVariants as step
-use Rattle.layout.specs.declared.state.Total.{Total}
-use Rattle.layout.specs.declared.state.Total.TheVariants as total
-use Rattle.layout.specs.declared.stage.Stage.{Stage}
-use Rattle.layout.specs.declared.stage.Stage.TheVariants as stage
 use Rattle.layout.specs.Bytes.{padded}
-use Rattle.layout.specs.Refusals.{Refusal, at_line}
 use Rattle.layout.specs.Limits.{word_limit, data_limit, bss_limit, label_limit, equate_limit, label_word_limit, item_limit}
 use Rattle.layout.specs.Limits.{label_size, equate_size, item_size}
 use Rattle.layout.specs.Pseudos.{item_kind}
@@ -177,40 +159,6 @@ abbrev pub store : List ℕ → List ℕ → List ℕ → List ℕ → List ℕ 
 store l n e x i d w = record { labels = label_store l n; rest = rest_store e x i d w }
 
 -- ---- answers
-
--- a line's: the refusal is its number
-abbrev pub count_of : Count → Result ℕ ℕ
-count_of (count.Now n) = value n
-count_of (count.Stop n) = refused n
-
-abbrev pub items_of : ItemStep → Result ℕ ItemCount
-items_of (item-step.Now c) = value c
-items_of (item-step.Stop n) = refused n
-
-abbrev pub data_of : DataStep → Result ℕ DataCount
-data_of (data_step.Now c) = value c
-data_of (data_step.Stop n) = refused n
-
-abbrev pub own_of : OwnStep → Result ℕ OwnCounters
-own_of (own-step.Now c) = value c
-own_of (own-step.Stop n) = refused n
-
-abbrev pub rest_of : RestStep → Result ℕ RestCounters
-rest_of (rest_step.Now c) = value c
-rest_of (rest_step.Stop n) = refused n
-
-abbrev pub step_of : Step → Result ℕ Counters
-step_of (step.Now c) = value c
-step_of (step.Stop n) = refused n
-
--- a stage's: the refusal has its line
-abbrev pub total_of : Total → Result Refusal ℕ
-total_of (total.Through n) = value n
-total_of (total.Refused n line) = at_line line (refused n)
-
-abbrev pub stage_of : Stage → Result Refusal Counters
-stage_of (stage.Through c) = value c
-stage_of (stage.Refused n line) = at_line line (refused n)
 
 -- ---- counters
 

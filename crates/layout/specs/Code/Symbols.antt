@@ -1,9 +1,9 @@
 -- Symbols resolved once the lines are read: what that asks of the buffers, and what it leaves.
 use Rattle.std.specs.Prelude.{ℕ, ◌+◌, ◌*◌, ◌≤◌, ◌≡◌, List, [], length}
-use Rattle.numbers.specs.Results.{Result, value, and_then}
+use Rattle.std.specs.Prelude.{Result, Ok}
+use Rattle.numbers.specs.Results.{and_then}
 use Rattle.layout.specs.declared.limits.Room.{Room}
 use Rattle.layout.specs.declared.state.Counters.{Counters}
-use Rattle.layout.specs.declared.state.Total.{Total}
 use Rattle.layout.specs.Refusals.{Refusal}
 use Rattle.layout.specs.Bytes.{padded}
 use Rattle.layout.specs.Limits.{base_limit, text_limit, equate_limit}
@@ -13,10 +13,12 @@ use Rattle.layout.specs.Rounds.{Turns}
 use Rattle.layout.specs.Layouts.{resolve}
 use Rattle.layout.specs.Code.Index.{buckets, Indexed}
 use Rattle.layout.specs.Code.Steps.{Agrees}
-use Rattle.layout.specs.Code.Stands.{LabelsStand, EquatesStand, StoredStand, label_store, equate_store, data_store, total_of}
+use Rattle.layout.specs.Code.Stands.{LabelsStand, EquatesStand, StoredStand, label_store, equate_store, data_store}
 use Rattle.layout.specs.Code.Lent.{OverCall}
 use Rattle.layout.specs.Code.Placed.{LabelsPlaced}
 use Rattle.layout.specs.Code.Resolves.{ResolveLeft}
+use Rattle.layout.specs.declared.refusal.RefusedAt.{RefusedAt}
+use Rattle.layout.specs.Code.Numbers.{numbered_at}
 
 -- what the lines left, with room for the index of the equates' names and for how far their sums come
 pub record SymbolsStand (t : List ℕ) (base : ℕ) (st : Counters) (l n e ix x w d lw : List ℕ) : Type 0 where
@@ -40,10 +42,10 @@ pub record Symbols : Type 0 where
   pub bytes : List ℕ
   pub turns : Turns
 
-abbrev pub symbols_of : ℕ → State → Result Refusal Symbols
+abbrev pub symbols_of : ℕ → State → Result Symbols Refusal
 symbols_of base σ =
     and_then (fill (label_address base σ) σ.rest.own.stored.label_words σ.rest.own.stored.bytes) (λ bytes.
-    and_then (resolve base σ σ.rest.equates) (λ x. value (record { bytes = bytes; turns = x })))
+    and_then (resolve base σ σ.rest.equates) (λ x. Ok (record { bytes = bytes; turns = x })))
 
 -- labels with their addresses, the data, and the equates with their values
 pub record SymbolsLeft (t : List ℕ) (base : ℕ) (σ : State) (st : Counters) (l n e ix d : List ℕ) (count : ℕ) (y : Symbols) : Type 0 where
@@ -52,8 +54,8 @@ pub record SymbolsLeft (t : List ℕ) (base : ℕ) (σ : State) (st : Counters) 
   pub resolved : ResolveLeft t e ix st.rest.equates count y.turns
 
 abbrev pub SymbolsResolve : List ℕ → ℕ → Counters → OverCall → List ℕ → OverCall → OverCall → List ℕ → OverCall → OverCall → List ℕ
-    → Total → Type 0
+    → Result ℕ RefusedAt → Type 0
 SymbolsResolve t base st l n e ix x w d lw r =
     (s : SymbolsReady t base st l.entry.now n e.entry.now ix.entry.now x w.entry.now d.entry.now lw)
     → Agrees (SymbolsLeft t base s.state st l.exit.now n e.exit.now ix.exit.now d.exit.now)
-    (total_of r) (symbols_of base s.state)
+    (numbered_at r) (symbols_of base s.state)

@@ -1,12 +1,10 @@
 -- The layout's own records, and how names are looked up in the labels' records.
 use Rattle.std.specs.Prelude.{ℕ, zero, suc, ◌+◌, ◌*◌, ◌≤◌, ◌<◌, ◌≡◌, List, [], ◌∷◌, Bool, true, false, eqb, length}
-use Rattle.std.proofs.Math.Option.{Option, none, some}
+use Rattle.std.specs.Prelude.{Option, None, Some}
 use Rattle.numbers.specs.Text.{same}
 use Rattle.numbers.specs.Code.Spans.{spanned}
 use Rattle.layout.specs.declared.records.ExprRecord.{ExprRecord}
 use Rattle.layout.specs.declared.records.LabelWordRecord.{LabelWordRecord}
-use Rattle.layout.specs.declared.labels.Lookup.{Lookup}
-use Rattle.layout.specs.declared.labels.Lookup.TheVariants as lookup
 use Rattle.layout.specs.Limits.{label_size, equate_limit, label_word_limit}
 use Rattle.layout.specs.Records.{RecordField, four, four_at, label_record_at, equate_record_at}
 use Rattle.layout.specs.Code.Index.{Indexed, Distinct}
@@ -69,17 +67,13 @@ label_names t b k (suc n) = label_name_at t b k ∷ label_names t b (suc k) n
 
 -- the place of a name among names, counted from k on
 unfoldable pub lookup_in : List ℕ → ℕ → List (List ℕ) → Option ℕ
-lookup_in n k [] = none
-lookup_in n k (x ∷ xs) = elim (same x n) [ true ↦ some k | false ↦ lookup_in n (suc k) xs ]
-
-abbrev pub lookup_of : Lookup → Option ℕ
-lookup_of (lookup.At k) = some k
-lookup_of lookup.Nothing = none
+lookup_in n k [] = None
+lookup_in n k (x ∷ xs) = elim (same x n) [ true ↦ Some k | false ↦ lookup_in n (suc k) xs ]
 
 -- what was found is one of so many
-abbrev pub LookupBelow : ℕ → Lookup → Type 0
-LookupBelow count (lookup.At k) = k < count
-LookupBelow count lookup.Nothing = Unit
+abbrev pub LookupBelow : ℕ → Option ℕ → Type 0
+LookupBelow count (Some k) = k < count
+LookupBelow count None = Unit
 
 -- the index of so many labels' names, no two of them the same
 pub record LabelsIndexed (t b ix : List ℕ) (count : ℕ) : Type 0 where
@@ -88,8 +82,8 @@ pub record LabelsIndexed (t b ix : List ℕ) (count : ℕ) : Type 0 where
   pub distinct : Distinct (label_names t b 0 count)
 
 -- what was found is what a search in order finds
-abbrev pub LooksUp : List ℕ → List ℕ → ℕ → List ℕ → Lookup → Type 0
-LooksUp t b count n r = (lookup_of r ≡ lookup_in n 0 (label_names t b 0 count)) × LookupBelow count r
+abbrev pub LooksUp : List ℕ → List ℕ → ℕ → List ℕ → Option ℕ → Type 0
+LooksUp t b count n r = (r ≡ lookup_in n 0 (label_names t b 0 count)) × LookupBelow count r
 
 -- ---- equates by name
 

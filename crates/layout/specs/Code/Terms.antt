@@ -1,18 +1,13 @@
 -- Expressions term by term: what stands before a term, its value, what joins the next one, and how far a sum has come.
+use Rattle.std.specs.Prelude.{Result}
 use Rattle.std.specs.Prelude.{ℕ, zero, suc, ◌≤◌, ◌<◌, ◌≡◌, List, [], ◌∷◌, Bool, true, false, not, length, ℤ}
-use Rattle.std.proofs.Math.Option.{Option, none, some}
-use Rattle.numbers.specs.Results.{value, refused}
-use Rattle.numbers.specs.declared.ints.Checked.{Checked}
-use Rattle.numbers.specs.Code.Meanings.{checked_value}
+use Rattle.std.specs.Prelude.{Option, None, Some}
+use Rattle.std.specs.Prelude.{Ok, Err}
 use Rattle.layout.specs.declared.tokens.Token as code
 use Rattle.layout.specs.declared.tokens.Token.TheVariants as kind
 use Rattle.layout.specs.declared.expr.Partial.{Partial}
 use Rattle.layout.specs.declared.expr.Evaluated as answer
-use Rattle.layout.specs.declared.expr.Evaluated.TheVariants.{Value, Waits, Refused}
-use Rattle.layout.specs.declared.expr.Term.{Term}
-use Rattle.layout.specs.declared.expr.Term.TheVariants as term_kind
-use Rattle.layout.specs.declared.expr.Joint.{Joint}
-use Rattle.layout.specs.declared.expr.Joint.TheVariants.{Operator, End, Malformed}
+use Rattle.layout.specs.declared.expr.Evaluated.TheVariants.{Value, Waits}
 use Rattle.layout.specs.Expressions.{Token, plus, minus, dot, number, name, unreadable, Evaluated, positive, Wanted, term, joint, on_fit, add_term, sum_from, evaluate}
 use Rattle.layout.specs.Code.Tokens.{token_of, TokenWithin, tokens_from, spaced_in}
 
@@ -65,22 +60,22 @@ NoTerm (number z ∷ ts) = ⊥
 NoTerm (name n ∷ ts) = ⊥
 NoTerm (unreadable ∷ ts) = Unit
 
-abbrev pub TermFrom : Bool → List ℕ → ℕ → Term → Type 0
-TermFrom one_space s at (term_kind.Found own t after) = TermStands one_space s at own t after
-TermFrom one_space s at term_kind.Missing = NoTerm (unsigned (tokens_from one_space s at))
+abbrev pub TermFrom : Bool → List ℕ → ℕ → Option (Bool × code.Token × ℕ) → Type 0
+TermFrom one_space s at (Some (own, t, after)) = TermStands one_space s at own t after
+TermFrom one_space s at None = NoTerm (unsigned (tokens_from one_space s at))
 
 -- a term's value: `here` is `.`
 abbrev pub term_value : (List ℕ → Option ℤ) → ℤ → Token → Option ℤ
-term_value look here plus = none
-term_value look here minus = none
-term_value look here dot = some here
-term_value look here (number z) = some z
+term_value look here plus = None
+term_value look here minus = None
+term_value look here dot = Some here
+term_value look here (number z) = Some z
 term_value look here (name n) = look n
-term_value look here unreadable = none
+term_value look here unreadable = None
 
 -- the sum with one term more, or beyond 64 signed bits
-abbrev pub AddsTerm : ℤ → (joining own : Bool) → ℤ → Checked → Type 0
-AddsTerm sum joining own v r = (f : ℤ → Evaluated) → add_term sum joining own v f ≡ on_fit (checked_value r) f
+abbrev pub AddsTerm : ℤ → (joining own : Bool) → ℤ → Option ℤ → Type 0
+AddsTerm sum joining own v r = (f : ℤ → Evaluated) → add_term sum joining own v f ≡ on_fit r f
 
 -- ---- what joins the next term
 
@@ -104,22 +99,26 @@ pub record JointStands (one_space : Bool) (s : List ℕ) (at : ℕ) (joining : B
   pub further : at < after
   pub within : after ≤ length s
 
-abbrev pub JointFrom : Bool → List ℕ → ℕ → Joint → Type 0
-JointFrom one_space s at (Operator joining after) = JointStands one_space s at joining after
-JointFrom one_space s at End = tokens_from one_space s at ≡ []
-JointFrom one_space s at Malformed = NoJoint (tokens_from one_space s at)
+-- an operator, whether it is a minus, and the place after it
+abbrev pub operator : Bool → ℕ → Result (Option (Bool × ℕ)) ℕ
+operator joining after = Ok (Some (joining, after))
+
+abbrev pub JointFrom : Bool → List ℕ → ℕ → Result (Option (Bool × ℕ)) ℕ → Type 0
+JointFrom one_space s at (Ok (Some (joining, after))) = JointStands one_space s at joining after
+JointFrom one_space s at (Ok None) = tokens_from one_space s at ≡ []
+JointFrom one_space s at (Err n) = NoJoint (tokens_from one_space s at) × (n ≡ 16)
 
 -- where a sum goes on: no operator stands before the first term
-abbrev pub JointAt : Bool → List ℕ → ℕ → Joint → Type 0
-JointAt one_space s zero r = r ≡ Operator positive 0
+abbrev pub JointAt : Bool → List ℕ → ℕ → Result (Option (Bool × ℕ)) ℕ → Type 0
+JointAt one_space s zero r = r ≡ operator positive 0
 JointAt one_space s (suc n) r = JointFrom one_space s (suc n) r
 
 -- ---- evaluations
 
-abbrev pub evaluated_of : answer.Evaluated → Evaluated
-evaluated_of (Value z) = value (some z)
-evaluated_of (Waits p) = value none
-evaluated_of (Refused n) = refused n
+abbrev pub evaluated_of : Result answer.Evaluated ℕ → Evaluated
+evaluated_of (Ok (Value z)) = Ok (Some z)
+evaluated_of (Ok (Waits p)) = Ok None
+evaluated_of (Err n) = Err n
 
 -- what is to come at a place: a term at the start, an operator behind a term
 abbrev pub wanted_at : ℕ → Wanted
@@ -136,7 +135,7 @@ evaluation_of one_space s here look = evaluate look here (spaced_in one_space s)
 
 -- every name that has a value keeps it
 abbrev pub Extends : (f g : List ℕ → Option ℤ) → Type 0
-Extends f g = (n : List ℕ) (z : ℤ) → f n ≡ some z → g n ≡ some z
+Extends f g = (n : List ℕ) (z : ℤ) → f n ≡ Some z → g n ≡ Some z
 
 -- f goes on from there: whatever other names get values, it is what the sum comes to
 abbrev pub GoesOn : (List ℕ → Option ℤ) → Bool → List ℕ → ℤ → ((List ℕ → Option ℤ) → Evaluated) → Partial → Type 0
@@ -146,24 +145,24 @@ GoesOn look one_space s here f p = (later : List ℕ → Option ℤ) → Extends
 pub record TermWaits (look : List ℕ → Option ℤ) (one_space : Bool) (s : List ℕ) (here : ℤ) (at : ℕ) : Type 0 where
   pub joining : Bool
   pub first : ℕ
-  pub joint : JointAt one_space s at (Operator joining first)
+  pub joint : JointAt one_space s at (operator joining first)
   pub own : Bool
   pub operand : code.Token
   pub after : ℕ
   pub stands : TermStands one_space s first own operand after
-  pub unknown : none ≡ term_value look here (token_of s operand)
+  pub unknown : None ≡ term_value look here (token_of s operand)
 
 -- f has come as far as it can: to a term without a value, and goes on from there
 pub record WaitsAt (look : List ℕ → Option ℤ) (one_space : Bool) (s : List ℕ) (here : ℤ) (f : (List ℕ → Option ℤ) → Evaluated) (p : Partial) : Type 0 where
   pub waits : TermWaits look one_space s here p.at
   pub goes : GoesOn look one_space s here f p
 
-abbrev pub Waiting : (List ℕ → Option ℤ) → Bool → List ℕ → ℤ → ((List ℕ → Option ℤ) → Evaluated) → answer.Evaluated → Type 0
-Waiting look one_space s here f (Value z) = Unit
-Waiting look one_space s here f (Waits p) = WaitsAt look one_space s here f p
-Waiting look one_space s here f (Refused n) = Unit
+abbrev pub Waiting : (List ℕ → Option ℤ) → Bool → List ℕ → ℤ → ((List ℕ → Option ℤ) → Evaluated) → Result answer.Evaluated ℕ → Type 0
+Waiting look one_space s here f (Ok (Value z)) = Unit
+Waiting look one_space s here f (Ok (Waits p)) = WaitsAt look one_space s here f p
+Waiting look one_space s here f (Err n) = Unit
 
 -- an answer is what f gives by the look-up; where it waits, it says from where f goes on
-pub record Evaluates (look : List ℕ → Option ℤ) (one_space : Bool) (s : List ℕ) (here : ℤ) (f : (List ℕ → Option ℤ) → Evaluated) (r : answer.Evaluated) : Type 0 where
+pub record Evaluates (look : List ℕ → Option ℤ) (one_space : Bool) (s : List ℕ) (here : ℤ) (f : (List ℕ → Option ℤ) → Evaluated) (r : Result answer.Evaluated ℕ) : Type 0 where
   pub answers : evaluated_of r ≡ f look
   pub waiting : Waiting look one_space s here f r

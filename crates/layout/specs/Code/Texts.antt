@@ -1,6 +1,6 @@
 -- A string's text as the code stores it: its escapes decoded, or as it stands.
 use Rattle.std.specs.Prelude.{ℕ, ◌≡◌, List, cond, ltb, length}
-use Rattle.std.proofs.Math.Option.{Option, some}
+use Rattle.std.specs.Prelude.{Option, Some}
 use Rattle.numbers.specs.declared.strings.Quoted.{Quoted}
 use Rattle.numbers.specs.Strings.{decoded}
 use Rattle.numbers.specs.Code.Spans.{spanned}
@@ -9,14 +9,14 @@ use Rattle.layout.specs.Code.Spans.{SpanWithin}
 
 -- what a text is stored as in n bytes: it is decoded where it has more
 abbrev pub text_of : ℕ → List ℕ → Option (List ℕ)
-text_of n s = cond (ltb n (length s)) (decoded s) (some s)
+text_of n s = cond (ltb n (length s)) (decoded s) (Some s)
 
 abbrev pub text_bytes : ℕ → List ℕ → List ℕ
 text_bytes n s = bytes_of (text_of n s)
 
 -- it is stored in n bytes
 abbrev pub StoredIn : ℕ → List ℕ → Type 0
-StoredIn n s = size_of (text_of n s) ≡ some n
+StoredIn n s = size_of (text_of n s) ≡ Some n
 
 abbrev pub text_at : List ℕ → Quoted → List ℕ
 text_at t q = text_bytes q.size (spanned t q.part)

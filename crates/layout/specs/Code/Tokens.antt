@@ -1,15 +1,11 @@
 -- The tokens of an expression by the place where each stands.
 use Rattle.std.specs.Prelude.{ℕ, ◌+◌, ◌≤◌, ◌<◌, ◌≡◌, List, [], ◌∷◌, Bool, cond, eqb, length, drop, get_or, ℤ}
-use Rattle.std.proofs.Math.Option.{Option, none, some}
+use Rattle.std.specs.Prelude.{Option, None, Some}
 use Rattle.numbers.specs.Text.{byte, one_spaced}
 use Rattle.numbers.specs.Code.Spans.{spanned}
 use Rattle.numbers.specs.Code.Cursors.{is_separator}
 use Rattle.layout.specs.declared.tokens.Token as code
 use Rattle.layout.specs.declared.tokens.Token.TheVariants as kind
-use Rattle.layout.specs.declared.tokens.Sign.{Sign}
-use Rattle.layout.specs.declared.tokens.Sign.TheVariants as sign
-use Rattle.layout.specs.declared.tokens.TokenAt.{TokenAt}
-use Rattle.layout.specs.declared.tokens.TokenAt.TheVariants.{At, End}
 use Rattle.layout.specs.Expressions.{Token, plus, minus, dot, number, name, unreadable, is_blank, positive, negative, scan, tokens}
 use Rattle.layout.specs.Code.Spans.{SpanWithin}
 
@@ -23,13 +19,13 @@ token_of s (kind.Name p) = name (spanned s p)
 token_of s kind.Unreadable = unreadable
 
 -- what a byte is as a sign
-abbrev pub sign_of : ℕ → Sign
-sign_of b = cond (eqb b (byte "+")) (sign.Is positive) (cond (eqb b (byte "-")) (sign.Is negative) sign.Nothing)
+abbrev pub sign_of : ℕ → Option Bool
+sign_of b = cond (eqb b (byte "+")) (Some positive) (cond (eqb b (byte "-")) (Some negative) None)
 
 -- the token of what a number's bytes read as (`number_token`)
 abbrev pub numeral : Option ℤ → code.Token
-numeral none = kind.Unreadable
-numeral (some z) = kind.Number z
+numeral None = kind.Unreadable
+numeral (Some z) = kind.Number z
 
 -- a name lies within the text
 abbrev pub TokenWithin : List ℕ → code.Token → Type 0
@@ -48,9 +44,9 @@ pub record TokenStands (s : List ℕ) (at : ℕ) (t : code.Token) (after : ℕ) 
   pub within : after ≤ length s
   pub named : TokenWithin s t
 
-abbrev pub TokenHere : List ℕ → ℕ → TokenAt → Type 0
-TokenHere s at (At t after) = TokenStands s at t after
-TokenHere s at End = length s ≤ at
+abbrev pub TokenHere : List ℕ → ℕ → Option (code.Token × ℕ) → Type 0
+TokenHere s at (Some (t, after)) = TokenStands s at t after
+TokenHere s at None = length s ≤ at
 
 -- a text as an expression is read: as it stands, or with one space for each run of white space (`expr_text`)
 abbrev pub spaced_in : Bool → List ℕ → List ℕ
@@ -71,6 +67,6 @@ pub record TokenLeads (one_space : Bool) (s : List ℕ) (at : ℕ) (t : code.Tok
   pub within : after ≤ length s
   pub named : TokenWithin s t
 
-abbrev pub TokenFrom : Bool → List ℕ → ℕ → TokenAt → Type 0
-TokenFrom one_space s at (At t after) = TokenLeads one_space s at t after
-TokenFrom one_space s at End = tokens_from one_space s at ≡ []
+abbrev pub TokenFrom : Bool → List ℕ → ℕ → Option (code.Token × ℕ) → Type 0
+TokenFrom one_space s at (Some (t, after)) = TokenLeads one_space s at t after
+TokenFrom one_space s at None = tokens_from one_space s at ≡ []

@@ -1,6 +1,9 @@
 -- What the code's writes into the data mean.
+use Rattle.std.specs.Prelude.{Some, None}
+use Rattle.std.specs.Prelude.{Option}
 use Rattle.std.specs.Prelude.{ℕ, ◌+◌, ◌≤◌, ◌<◌, ◌≡◌, List, [], ◌∷◌, ◌++◌, map, cond, eqb, length, replicate}
-use Rattle.numbers.specs.Results.{Result, value, refused, mapped}
+use Rattle.std.specs.Prelude.{Result, Ok, Err}
+use Rattle.numbers.specs.Results.{mapped}
 use Rattle.numbers.specs.Ints.{bits}
 use Rattle.numbers.specs.Numbers.{imm_of}
 use Rattle.numbers.specs.Strings.{string_bytes}
@@ -10,18 +13,16 @@ use Rattle.layout.specs.declared.directives.Source.{Source}
 use Rattle.layout.specs.declared.directives.Source.TheVariants.{Stores, String, Reserves}
 use Rattle.layout.specs.declared.data.Write as code
 use Rattle.layout.specs.declared.data.Write.TheVariants as kind
-use Rattle.layout.specs.declared.data.Reading.{Reading}
-use Rattle.layout.specs.declared.data.Reading.TheVariants as reading
 use Rattle.layout.specs.declared.data.Readings.{Readings}
 use Rattle.layout.specs.declared.data.Readings.TheVariants as readings
-use Rattle.layout.specs.declared.data.Next.{Next}
-use Rattle.layout.specs.declared.data.Next.TheVariants as next
 use Rattle.layout.specs.Bytes.{little_endian}
 use Rattle.layout.specs.Directives.{Write, bytes, gap, address_of, width_bytes, reservation, operand_write, string_write, store_writes}
 use Rattle.layout.specs.Code.Spans.{SpanWithin}
 use Rattle.layout.specs.Code.Rows.{Small}
 use Rattle.layout.specs.Code.Texts.{text_at, TextFits}
-use Rattle.layout.specs.Code.Steps.{Some}
+use Rattle.layout.specs.Code.Steps.{Exists}
+use Rattle.layout.specs.declared.refusal.Refusal as refusals
+use Rattle.layout.specs.Code.Numbers.{refusal_number, numbered}
 
 abbrev pub write_at : List ℕ → code.Write → Write
 write_at t (kind.Number w v) = bytes (little_endian (width_bytes w) (bits 64 v))
@@ -29,9 +30,8 @@ write_at t (kind.Text q zeros) = bytes (text_at t q ++ replicate zeros 0)
 write_at t (kind.Gap r) = gap r
 write_at t (kind.Address q) = address_of (spanned t q)
 
-abbrev pub reading_at : List ℕ → Reading → Result ℕ Write
-reading_at t (reading.As w) = value (write_at t w)
-reading_at t (reading.Refused n) = refused n
+abbrev pub reading_at : List ℕ → Result code.Write refusals.Refusal → Result Write ℕ
+reading_at t r = mapped (write_at t) (numbered r)
 
 -- its spans lie within the text, its sizes are small
 abbrev pub WriteFits : List ℕ → code.Write → Type 0
@@ -40,9 +40,9 @@ WriteFits t (kind.Text q zeros) = TextFits t q × (zeros ≤ 1)
 WriteFits t (kind.Gap r) = Small r
 WriteFits t (kind.Address q) = SpanWithin t q
 
-abbrev pub ReadingFits : List ℕ → Reading → Type 0
-ReadingFits t (reading.As w) = WriteFits t w
-ReadingFits t (reading.Refused n) = Unit
+abbrev pub ReadingFits : List ℕ → Result code.Write refusals.Refusal → Type 0
+ReadingFits t (Ok w) = WriteFits t w
+ReadingFits t (Err n) = Unit
 
 -- the n bytes that it puts into the data, and that n is a string's length
 abbrev pub written_bytes : List ℕ → ℕ → code.Write → List ℕ
@@ -60,13 +60,13 @@ TextSized (kind.Address q) n = Unit
 -- ---- reading by reading
 
 -- what a directive writes in data, by what follows its name
-abbrev pub source_readings : Source → List ℕ → List (Result ℕ Write)
+abbrev pub source_readings : Source → List ℕ → List (Result Write ℕ)
 source_readings (Stores x) s = store_writes x s
 source_readings (String zeros) s = string_write zeros (string_bytes s) ∷ []
 source_readings (Reserves x) s = mapped gap (reservation x (imm_of s)) ∷ []
 
 -- what the code reads from a place on; what is read at once is read at the start
-abbrev pub readings_from : List ℕ → Readings → List ℕ → ℕ → List (Result ℕ Write)
+abbrev pub readings_from : List ℕ → Readings → List ℕ → ℕ → List (Result Write ℕ)
 readings_from t (readings.Numbers w) s at = map (operand_write w) (operands_from s at)
 readings_from t (readings.Once r) s at = cond (eqb at 0) (reading_at t r ∷ []) []
 
@@ -74,14 +74,9 @@ abbrev pub ReadingsFit : List ℕ → Readings → Type 0
 ReadingsFit t (readings.Numbers w) = Unit
 ReadingsFit t (readings.Once r) = ReadingFits t r
 
--- what was read, with the place to go on from
-abbrev pub next_code : Reading → ℕ → Next
-next_code (reading.As w) after = next.As w after
-next_code (reading.Refused n) after = next.Refused n
-
 -- what the code reads from a place on is the first of the readings there, and the others are those from a later place on; or none is left
-abbrev pub NextIs : List ℕ → Readings → List ℕ → ℕ → Next → Type 0
-NextIs t x s at (next.As w after) =
-    (readings_from t x s at ≡ value (write_at t w) ∷ readings_from t x s after) × WriteFits t w × (at < after) × (after ≤ length s + 1)
-NextIs t x s at (next.Refused n) = Some (λ rs. readings_from t x s at ≡ refused n ∷ rs)
-NextIs t x s at next.End = readings_from t x s at ≡ []
+abbrev pub NextIs : List ℕ → Readings → List ℕ → ℕ → Result (Option (code.Write × ℕ)) refusals.Refusal → Type 0
+NextIs t x s at (Ok (Some (w, after))) =
+    (readings_from t x s at ≡ Ok (write_at t w) ∷ readings_from t x s after) × WriteFits t w × (at < after) × (after ≤ length s + 1)
+NextIs t x s at (Err n) = Exists (λ rs. readings_from t x s at ≡ Err (refusal_number n) ∷ rs)
+NextIs t x s at (Ok None) = readings_from t x s at ≡ []

@@ -1,38 +1,24 @@
 -- What the code answers for a string: where its text stands, and how many bytes that stands for.
 use Rattle.std.specs.Prelude.{ℕ, ◌+◌, min, List, [], false, length, drop}
-use Rattle.std.proofs.Math.Option.{Option, none, some}
+use Rattle.std.specs.Prelude.{Option, None, Some, option_map}
 use Rattle.numbers.specs.Text.{byte, index_of, leading_spaces}
 use Rattle.numbers.specs.Strings.{Char, char, decoded, to_quote, string_bytes}
 use Rattle.numbers.specs.declared.text.Span.{Span}
-use Rattle.numbers.specs.declared.strings.Char as code
-use Rattle.numbers.specs.declared.strings.Char.TheVariants as character
-use Rattle.numbers.specs.declared.strings.Size.{Size}
-use Rattle.numbers.specs.declared.strings.Size.TheVariants as size
 use Rattle.numbers.specs.declared.strings.Quoted.{Quoted}
-use Rattle.numbers.specs.declared.strings.Str.{Str}
-use Rattle.numbers.specs.declared.strings.Str.TheVariants as str
 
-abbrev pub char_value : code.Char → Option Char
-char_value (character.Is b n) = some (char b n)
-char_value character.Invalid = none
-
-abbrev pub size_value : Size → Option ℕ
-size_value (size.Is n) = some n
-size_value size.Invalid = none
-
-abbrev pub str_value : Str → Option Quoted
-str_value (str.Is q) = some q
-str_value str.Invalid = none
+-- the byte that a character stands for, and how many bytes it takes behind its first
+abbrev pub char_value : Option (ℕ × ℕ) → Option Char
+char_value = option_map (λ (c : ℕ × ℕ). char c.0 c.1)
 
 -- how many bytes an answer has
 abbrev pub size_of : Option (List ℕ) → Option ℕ
-size_of none = none
-size_of (some bs) = some (length bs)
+size_of None = None
+size_of (Some bs) = Some (length bs)
 
 -- the bytes of an answer; the empty list where there is no answer
 abbrev pub bytes_of : Option (List ℕ) → List ℕ
-bytes_of none = []
-bytes_of (some bs) = bs
+bytes_of None = []
+bytes_of (Some bs) = bs
 
 -- the bytes that the text between two quotes stands for
 abbrev pub decoded_bytes : List ℕ → List ℕ
@@ -44,8 +30,8 @@ plain_len s = min (index_of (byte "\"") s) (index_of (byte "\\") s)
 
 -- a part of a text, and how many bytes it stands for
 abbrev pub sized : Span → Option ℕ → Option Quoted
-sized p none = none
-sized p (some n) = some (record { part = p; size = n })
+sized p None = None
+sized p (Some n) = Some (record { part = p; size = n })
 
 -- the text from a place of s to the next unescaped quote, which stands for these bytes, or for none
 abbrev pub quoted_from : List ℕ → ℕ → Option (List ℕ) → Option Quoted

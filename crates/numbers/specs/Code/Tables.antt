@@ -1,8 +1,6 @@
 -- Tables of names, as the code compares them: by a number for each name; by rows of 16 bytes, which stand slot by slot.
 use Rattle.std.specs.Prelude.{ℕ, zero, suc, ◌+◌, ◌-◌, ◌*◌, ◌%◌, ◌≡◌, List, [], ◌∷◌, ◌++◌, Bool, true, false, cond, not, ◌&&◌, eqb, ltb, length, take, drop, get_or, replicate}
-use Rattle.std.proofs.Math.Option.{Option, none, some}
-use Rattle.numbers.specs.declared.table.Found.{Found}
-use Rattle.numbers.specs.declared.table.Found.TheVariants.{At, Nothing}
+use Rattle.std.specs.Prelude.{Option, None, Some, option_map}
 use Rattle.numbers.specs.Text.{byte}
 
 -- a name as one number: the first byte lowest, a 1 after the last; of texts of bytes no two have the same
@@ -95,14 +93,13 @@ pub record Tabled (slot : List ℕ → ℕ) (t : List ℕ) : Type 0 where
 
 -- the first that a test holds of
 unfoldable pub first : {A : Type 0} → (A → Bool) → List A → Option A
-first test [] = none
-first test (x ∷ xs) = cond (test x) (some x) (first test xs)
+first test [] = None
+first test (x ∷ xs) = cond (test x) (Some x) (first test xs)
 
 -- the row that is found in a table
-abbrev pub found_row : List ℕ → Found → Option (List ℕ)
-found_row t (At at) = some (take 16 (drop at t))
-found_row t Nothing = none
+abbrev pub found_row : List ℕ → Option ℕ → Option (List ℕ)
+found_row t = option_map (λ at. take 16 (drop at t))
 
 -- an answer is the first row that a test holds of, whatever rows the table is of
-abbrev pub Finds : (List ℕ → ℕ) → (List ℕ → Bool) → List ℕ → Found → Type 0
+abbrev pub Finds : (List ℕ → ℕ) → (List ℕ → Bool) → List ℕ → Option ℕ → Type 0
 Finds slot test t r = (rs : List (List ℕ)) → TableOf slot rs t → found_row t r ≡ first test rs

@@ -1,16 +1,16 @@
 -- `bss::bss_line`: the bss grows to the place after the reservation.
-use mathlib.Core.Path.{refl}
-use native.Mathlib.Omega.{arith}
+use mathlib.Core.Path.{◌≡◌, refl}
+use borrow.Author.Rules.{rules}
+use Rattle.std.proofs.Common.{Err}
 use Rattle.layout.specs.Stage.{bss_line}
 use Rattle.layout.proofs.bss.bss_line.Goals as goal
 
-pub place_after-requires : goal.place_after-requires
-place_after-requires c = (omega (arith, c.requires), rw c.in-As.is at c.reservation_of.ensures.1)
-
-pub returns-in-As : goal.returns-in-As
+pub returns-in_err-reservation_of : goal.returns-in_err-reservation_of
 unfolding bss_line
-returns-in-As c = rw (c.grow_bss.ensures, c.place_after.ensures, ← c.reservation_of.ensures.0, c.in-As.is) refl
+returns-in_err-reservation_of c =
+    let e : c.from_residual.result ≡ Err c.in_err-reservation_of.field-0.0 = search rules in
+    rw (e, ← c.reservation_of.ensures.0, c.in_err-reservation_of.was) refl
 
-pub returns-in-Refused : goal.returns-in-Refused
+pub returns : goal.returns
 unfolding bss_line
-returns-in-Refused c = rw (← c.reservation_of.ensures.0, c.in-Refused.is) refl
+returns c = rw (c.grow_bss.ensures, c.place_after.ensures, ← c.reservation_of.ensures.0, c.in_ok-reservation_of.was) refl

@@ -1,5 +1,4 @@
 -- `data::add_label_word`: an address's place, name and line; another write makes no label word.
-use native.Mathlib.Omega.{arith}
 use Rattle.layout.proofs.DataLaws.{word_none, word_many, word_goes}
 use Rattle.layout.proofs.data.add_label_word.Goals as goal
 
@@ -8,16 +7,6 @@ returns-in_default c = word_none _ _ _ _ _ c.args.write c.in_default.not-Address
 
 pub returns-then-count-ge-LABEL_WORD_LIMIT : goal.returns-then-count-ge-LABEL_WORD_LIMIT
 returns-then-count-ge-LABEL_WORD_LIMIT c = word_many _ _ _ _ _ _ _ c.in-Address.is c.if-count-ge-LABEL_WORD_LIMIT.true
-
-pub overflow_cast-word-2 : goal.overflow_cast-word-2
-overflow_cast-word-2 c =
-    let h = rw c.in-Address.is at c.requires.2 in
-    record { fits = omega (arith, h, c.requires.1) }
-
-pub overflow_cast-word-3 : goal.overflow_cast-word-3
-overflow_cast-word-3 c =
-    let h = rw c.in-Address.is at c.requires.2 in
-    record { fits = omega (arith, h, c.requires.1) }
 
 pub returns : goal.returns
 returns c =

@@ -1,30 +1,18 @@
--- `data::is_label_name`: the invariant says that from i on there are name bytes alone where the whole is a name.
-use native.Mathlib.Omega.{arith}
-use mathlib.Core.Path.{refl, sym, ◌∙◌}
+-- `data::is_label_name`: the first byte begins a name, and each byte behind it may stand in one.
+use mathlib.Core.Bool.{◌||◌}
 use borrow.Author.Rules.{rules}
-use Rattle.layout.proofs.NameLaws.{name_empty, name-first, name_more, name-stop, name_end}
+use lib.ListN.{drop}
+use Rattle.std.proofs.lemmas.Iterator.{YieldsList-from_slice}
+use Rattle.std.proofs.lemmas.Iterator.Search.{all_from_yields_List}
+use Rattle.numbers.specs.Text.{is_digit}
+use Rattle.numbers.proofs.Trims.{tail}
+use Rattle.layout.specs.Directives.{is_label_start}
+use Rattle.layout.proofs.NameLaws.{name-first, names_all}
 use Rattle.layout.proofs.data.is_label_name.Goals as goal
 
-pub returns-then-s-eq0 : goal.returns-then-s-eq0
-returns-then-s-eq0 c = name_empty c.args.s.now c.if-s-eq0.true
-
-pub returns-then-not-is_label_start : goal.returns-then-not-is_label_start
-returns-then-not-is_label_start c = rw (name-first c.args.s.now c.if-s-eq0.false, ← c.is_label_start.ensures, c.if-not-is_label_start.true) refl
-
-pub loop-i-init : goal.loop-i-init
-loop-i-init c =
-    let first = name-first c.args.s.now c.if-s-eq0.false in
-    (omega arith, omega arith, sym (rw (first, ← c.is_label_start.ensures, c.if-not-is_label_start.false) refl))
-
-pub returns-then-not-is_label_byte : goal.returns-then-not-is_label_byte
-returns-then-not-is_label_byte c =
-    let other = sym c.is_label_byte.ensures ∙ c.if-not-is_label_byte.true in
-    name-stop c.args.s.now c.loop-i.i (search rules) other ∙ c.loop-i.invariant.2
-
-pub loop-i-preserved : goal.loop-i-preserved
-loop-i-preserved c =
-    let named = sym c.is_label_byte.ensures ∙ c.if-not-is_label_byte.false in
-    (omega arith, omega arith, name_more c.args.s.now c.loop-i.i (search rules) named ∙ c.loop-i.invariant.2)
-
 pub returns : goal.returns
-returns c = name_end c.args.s.now c.loop-i.i (search rules) ∙ c.loop-i.invariant.2
+returns c =
+    let s = c.args.s.now in
+    let items = YieldsList-from_slice (drop 1 s) (rw tail at c.iter.ensures.rest) in
+    let others = all_from_yields_List (λ b. is_label_start b || is_digit b) _ _ _ c.all.ensures.ran items (λ x b q k. search rules) in
+    rw (name-first s c.if-s-eq0.false, names_all (drop 1 s), ← c.is_label_start.ensures, c.if-not-is_label_start.false) others

@@ -1,10 +1,6 @@
 -- `emit::emit_items`: what is emitted so far, carried on over the items that are left, is what all of them emit.
-use Prim.Native.Nat.{◌-◌}
 use Rattle.layout.proofs.EmitSteps.{EmitLoop}
 use Rattle.layout.proofs.emit.emit_items.Given as goal
 
 abbrev pub invariant-loop-k : goal.invariant-loop-k
 invariant-loop-k l = EmitLoop l.text l.labels l.label_index l.label_count l.equates l.equate_index l.equate_count l.starts l.initial.items l.count l.initial.words l.items l.words l.k l.at
-
-abbrev pub decreases-loop-k : goal.decreases-loop-k
-decreases-loop-k l = l.count - l.k

@@ -2,7 +2,7 @@
 use Prim.Native.Nat.{◌+◌, ◌-◌, ◌<◌}
 use mathlib.Core.Path.{◌≡◌, sym, ap, ◌∙◌}
 use mathlib.Core.Bool.{Bool, true, false}
-use mathlib.Core.Option.{some}
+use Rattle.std.proofs.Common.{Some}
 use native.Mathlib.Omega.{arith}
 use mir.Syntax.{w64}
 use mir.Val.{SFits}
@@ -74,4 +74,4 @@ pub returns : goal.returns
 returns c =
     let fit : SFits w64 c.get_equate.result.value = search rules in
     λ ks t. rw (to_z-of_z fit)
-    (ap (λ r. some r.value) c.get_equate.ensures ∙ seek_value t _ _ _ c.loop-entry-test.false (c.loop-entry.invariant ks t) c.if-found-eq0.false)
+    (ap (λ r. Some r.value) c.get_equate.ensures ∙ seek_value t _ _ _ c.loop-entry-test.false (c.loop-entry.invariant ks t) c.if-found-eq0.false)

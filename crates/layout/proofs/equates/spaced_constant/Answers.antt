@@ -2,7 +2,7 @@
 use mathlib.Core.Path.{◌≡◌, refl, sym, ap, ◌∙◌}
 use mathlib.Core.List.{List}
 use mathlib.Core.Bool.{Bool, true, false}
-use mathlib.Core.Option.{some}
+use Rattle.std.proofs.Common.{Some}
 use native.Mathlib.Omega.{arith}
 use mir.Syntax.{w64}
 use mir.Val.{SFits}
@@ -37,7 +37,7 @@ pub returns-then-is_spaced_found : goal.returns-then-is_spaced_found
 returns-then-is_spaced_found c =
     let fit : SFits w64 c.get_equate.result.value = search rules in
     λ ks t. rw (to_z-of_z fit)
-    (ap (λ r. some r.value) c.get_equate.ensures
+    (ap (λ r. Some r.value) c.get_equate.ensures
     ∙ order_hit t _ c.loop-k.k (omega (arith, t.rows.counted, c.loop-k-test.true)) (told (goal.at.returns-then-is_spaced_found c).After-is_spaced_found true c.if-is_spaced_found.true ks t)
     ∙ c.loop-k.invariant ks t)
 

@@ -1,5 +1,4 @@
 -- `equates::spaced_constant`: in order, from here on the name's value is the whole list's.
-use Prim.Native.Nat.{◌-◌}
 use mathlib.Core.Path.{◌≡◌}
 use mathlib.Core.List.{List}
 use lib.ListN.{drop}
@@ -10,6 +9,3 @@ use Rattle.layout.proofs.equates.spaced_constant.Given as goal
 
 abbrev pub invariant-loop-k : goal.invariant-loop-k
 invariant-loop-k l = (ks : List Known) → EquateTable l.text l.equates l.index l.count ks → constant (drop l.k ks) (one_spaced l.operand) ≡ constant ks (one_spaced l.operand)
-
-abbrev pub decreases-loop-k : goal.decreases-loop-k
-decreases-loop-k l = l.count - l.k

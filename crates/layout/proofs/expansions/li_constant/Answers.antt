@@ -1,5 +1,6 @@
 -- `expansions::li_constant`: an equate's value, after the test for a quote and before that for 32 bits.
-use mathlib.Core.Path.{◌≡◌, refl, sym, ap, ◌∙◌}
+use Rattle.std.proofs.Common.{Err}
+use mathlib.Core.Path.{◌≡◌, refl, sym, ◌∙◌}
 use mathlib.Core.Bool.{Bool, true, false}
 use lib.IntN.{ℤ}
 use mir.Syntax.{w64}
@@ -9,7 +10,8 @@ use Rattle.numbers.specs.Ints.{is_signed32}
 use Rattle.numbers.proofs.Integers.{signed32_fits}
 use Rattle.numbers.proofs.SpacedNumbers.{quote_spaced}
 use Rattle.layout.specs.Expansions.{li_constant}
-use Rattle.layout.specs.Code.Names.{value_of}
+use Rattle.layout.specs.declared.refusal.Refusal.TheVariants.{UnknownConstant}
+use Rattle.layout.proofs.ResultLaws.{given, missing}
 use borrow.Author.Rules.{rules}
 use Rattle.layout.proofs.expansions.li_constant.Goals as goal
 use Rattle.layout.proofs.expansions.li_constant.Goals.{After-in_signed32}
@@ -17,19 +19,21 @@ use Rattle.layout.proofs.expansions.li_constant.Goals.{After-in_signed32}
 pub returns-then-first_is : goal.returns-then-first_is
 returns-then-first_is c = λ ks table. rw (li_constant, quote_spaced _ ∙ sym c.first_is.ensures ∙ c.if-first_is.true) refl
 
-pub returns-in_default : goal.returns-in_default
-returns-in_default c =
+pub returns-in_err-v : goal.returns-in_err-v
+returns-in_err-v c =
+    let e : c.from_residual.result ≡ Err UnknownConstant = search rules in
     λ ks table. rw (
       li_constant,
+      e,
       quote_spaced _ ∙ sym c.first_is.ensures ∙ c.if-first_is.false,
-      sym (c.operand_constant.ensures ks table) ∙ ap value_of c.in_default.is,
+      sym (c.operand_constant.ensures ks table) ∙ missing _ _ (sym c.ok_or.ensures.value ∙ c.in_err-v.was),
     )
     refl
 
 -- the value that is found, and the test of it
 module _ (c : After-in_signed32) where
   abbrev v : ℤ
-  v = c.in-Is.v
+  v = c.in_ok-v.v
 
   read : to_z w64 (of_z w64 v) ≡ v
   read = to_z-of_z (let f : SFits w64 v = search rules in f)
@@ -48,7 +52,7 @@ returns-then-in_signed32 c =
       read (goal.at.returns-then-in_signed32 c).After-in_signed32,
       to_z-of_z (signed32_fits (v (goal.at.returns-then-in_signed32 c).After-in_signed32) small),
       quote_spaced _ ∙ sym c.first_is.ensures ∙ c.if-first_is.false,
-      sym (c.operand_constant.ensures ks table) ∙ ap value_of c.in-Is.is,
+      sym (c.operand_constant.ensures ks table) ∙ given _ _ (sym c.ok_or.ensures.value ∙ c.in_ok-v.was),
       small,
     )
     refl
@@ -58,7 +62,7 @@ returns c =
     λ ks table. rw (
       li_constant,
       quote_spaced _ ∙ sym c.first_is.ensures ∙ c.if-first_is.false,
-      sym (c.operand_constant.ensures ks table) ∙ ap value_of c.in-Is.is,
+      sym (c.operand_constant.ensures ks table) ∙ given _ _ (sym c.ok_or.ensures.value ∙ c.in_ok-v.was),
       tested (goal.at.returns c).After-in_signed32 false c.if-in_signed32.false,
     )
     refl

@@ -29,6 +29,3 @@ returns-in-Label c = λ names stand. rw (c.in-Label.is, sym c.span_bytes-in-Labe
 
 pub returns-in-RegisterLabel : goal.returns-in-RegisterLabel
 returns-in-RegisterLabel c = λ names stand. rw (c.in-RegisterLabel.is, sym c.span_bytes-in-RegisterLabel.ensures) (c.label_arguments-in-RegisterLabel.ensures names.base names.state stand.labels)
-
-pub returns-in-Wrong : goal.returns-in-Wrong
-returns-in-Wrong c = λ names stand. rw c.in-Wrong.is refl

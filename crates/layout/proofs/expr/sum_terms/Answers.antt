@@ -1,22 +1,19 @@
 -- `expr::sum_terms`: what is summed so far, carried on from here, is what was to be summed, whatever other names get values.
-use mathlib.Core.Path.{◌≡◌, refl, sym, ap, subst, ◌∙◌}
-use mathlib.Core.Option.{some}
+use mathlib.Core.Path.{◌≡◌, sym, subst, ◌∙◌}
+use Rattle.std.proofs.Common.{Some, None, Err}
 use native.Mathlib.Omega.{arith}
 use lib.IntN.{ℤ, pos}
 use mir.Syntax.{w64}
 use mir.Val.{SFits, to_z}
 use mir.Facts.{to_z-of_z}
-use Rattle.layout.specs.declared.expr.Joint.TheVariants.{Operator}
+use Rattle.layout.specs.declared.refusal.Refusal.TheVariants.{MalformedExpression, ExpressionOverflow}
 use Rattle.layout.specs.Code.Tokens.{token_of}
-use Rattle.layout.specs.Code.Names.{value_of, Scope, look_in, NamesStand}
-use Rattle.layout.specs.Code.Terms.{TermStands, JointAt, term_value, sum_on, GoesOn}
-use Rattle.layout.proofs.TermLaws.{joint_further, sum_missing, sum_waits, sum_beyond, sum_next, sum_end, sum_malformed}
+use Rattle.layout.specs.Code.Names.{Scope, look_in, NamesStand}
+use Rattle.layout.specs.Code.Terms.{TermStands, JointAt, operator, term_value, sum_on, GoesOn}
+use Rattle.layout.proofs.TermLaws.{sum_missing, sum_waits, sum_beyond, sum_next, sum_end, sum_malformed}
 use borrow.Author.Rules.{rules}
 use Rattle.layout.proofs.expr.sum_terms.Goals as goal
-use Rattle.layout.proofs.expr.sum_terms.Goals.{At-loop-joining, In-Found, In-Is, In-Operator}
-
-pub loop-joining-init : goal.loop-joining-init
-loop-joining-init c = λ names n later x. refl
+use Rattle.layout.proofs.expr.sum_terms.Goals.{At-loop-joining, In-Some, In_ok-own, In-Some-term_value}
 
 -- what is summed so far
 goes : (d : At-loop-joining) (names : Scope)
@@ -29,42 +26,49 @@ goes d names n =
     (to_z-of_z fit) (d.loop-joining.invariant names n)
 
 -- what joins the term
-joint : (c : In-Operator) → JointAt c.args.one_space c.args.s.now c.loop-joining.at (Operator c.in-Operator.joining c.in-Operator.k)
-joint c = rw c.in-Operator.is at c.joint_at.ensures
-
-pub returns-in_default : goal.returns-in_default
-returns-in_default c = λ names n. sum_missing _ _ _ _ _ _ c.loop-joining.at (goes (goal.at.returns-in_default c).At-loop-joining names n) c.in-Operator.joining c.in-Operator.k (joint (goal.at.returns-in_default c).In-Operator) (rw c.in_default.is at c.signed_term.ensures)
+joint : (c : In-Some) → JointAt c.args.one_space c.args.s.now c.loop-joining.at (operator c.in-Some.joining c.in-Some.k)
+joint c = rw (c.in_ok-joining.was, c.in-Some.is) at c.joint_at.ensures
 
 -- the term read
-term : (c : In-Found) → TermStands c.args.one_space c.args.s.now c.in-Operator.k c.in-Found.own c.in-Found.token c.in-Found.after
-term c = rw c.in-Found.is at c.signed_term.ensures
-
-pub returns-in_default-term_value : goal.returns-in_default-term_value
-returns-in_default-term_value c = λ names n. sum_waits _ _ _ _ _ _ c.loop-joining.at (goes (goal.at.returns-in_default-term_value c).At-loop-joining names n) c.in-Operator.joining c.in-Operator.k (joint (goal.at.returns-in_default-term_value c).In-Operator) _ _ _ (term (goal.at.returns-in_default-term_value c).In-Found) (ap value_of (sym c.in_default-term_value.is) ∙ c.term_value.ensures names n)
+term : (c : In_ok-own) → TermStands c.args.one_space c.args.s.now c.in-Some.k c.in_ok-own.own c.in_ok-own.token c.in_ok-own.after
+term c =
+    let some : c.signed_term.result ≡ Some (c.in_ok-own.own, c.in_ok-own.token, c.in_ok-own.after) = grind arith in
+    rw some at c.signed_term.ensures
 
 -- its value
-valued : (c : In-Is) (names : Scope)
+valued : (c : In-Some-term_value) (names : Scope)
     → NamesStand c.args.text.now c.args.labels.now c.args.label_index.now c.args.label_count c.args.equates.now c.args.equate_index.now c.args.equate_count names
-    → some c.in-Is.v ≡ term_value (look_in names) (pos c.args.here) (token_of c.args.s.now c.in-Found.token)
-valued c names n = ap value_of (sym c.in-Is.is) ∙ c.term_value.ensures names n
+    → Some c.in-Some-term_value.v ≡ term_value (look_in names) (pos c.args.here) (token_of c.args.s.now c.in_ok-own.token)
+valued c names n = (sym c.in-Some-term_value.is) ∙ c.term_value.ensures names n
 
-pub returns-in_default-add_term : goal.returns-in_default-add_term
-returns-in_default-add_term c =
-    let fit : SFits w64 c.in-Is.v = search rules in
-    λ names n. sum_beyond _ _ _ _ _ _ c.loop-joining.at (goes (goal.at.returns-in_default-add_term c).At-loop-joining names n) c.in-Operator.joining c.in-Operator.k (joint (goal.at.returns-in_default-add_term c).In-Operator) _ _ _ (term (goal.at.returns-in_default-add_term c).In-Found) _ (valued (goal.at.returns-in_default-add_term c).In-Is names n) (rw (to_z-of_z fit, c.in_default-add_term.is) at c.add_term.ensures)
+pub returns-in_err-joining : goal.returns-in_err-joining
+returns-in_err-joining c =
+    let e : c.from_residual.result ≡ Err c.in_err-joining.field-0.0 = search rules in
+    λ names n. rw e (sum_malformed _ _ _ _ _ _ c.loop-joining.at (goes (goal.at.returns-in_err-joining c).At-loop-joining names n) _ (rw c.in_err-joining.was at c.joint_at.ensures))
 
-pub loop-joining-smaller : goal.loop-joining-smaller
-loop-joining-smaller c = omega (arith, joint_further c.args.one_space c.args.s.now c.loop-joining.at c.in-Operator.joining c.in-Operator.k (joint (goal.at.loop-joining-smaller c).In-Operator), (term (goal.at.loop-joining-smaller c).In-Found).further, (term (goal.at.loop-joining-smaller c).In-Found).within)
+pub returns-in_err-own : goal.returns-in_err-own
+returns-in_err-own c =
+    let none : c.signed_term.result ≡ None = grind arith in
+    let e : c.from_residual-in_err-own.result ≡ Err MalformedExpression = grind arith in
+    λ names n. rw e (sum_missing _ _ _ _ _ _ c.loop-joining.at (goes (goal.at.returns-in_err-own c).At-loop-joining names n) c.in-Some.joining c.in-Some.k (joint (goal.at.returns-in_err-own c).In-Some) (rw none at c.signed_term.ensures))
+
+pub returns-in_default-term_value : goal.returns-in_default-term_value
+returns-in_default-term_value c = λ names n. sum_waits _ _ _ _ _ _ c.loop-joining.at (goes (goal.at.returns-in_default-term_value c).At-loop-joining names n) c.in-Some.joining c.in-Some.k (joint (goal.at.returns-in_default-term_value c).In-Some) _ _ _ (term (goal.at.returns-in_default-term_value c).In_ok-own) ((sym c.in_default-term_value.is) ∙ c.term_value.ensures names n)
+
+pub returns-in_err-sum : goal.returns-in_err-sum
+returns-in_err-sum c =
+    let fit : SFits w64 c.in-Some-term_value.v = search rules in
+    let none : c.add_term.result ≡ None = grind arith in
+    let e : c.from_residual-in_err-sum.result ≡ Err ExpressionOverflow = grind arith in
+    λ names n. rw e (sum_beyond _ _ _ _ _ _ c.loop-joining.at (goes (goal.at.returns-in_err-sum c).At-loop-joining names n) c.in-Some.joining c.in-Some.k (joint (goal.at.returns-in_err-sum c).In-Some) _ _ _ (term (goal.at.returns-in_err-sum c).In_ok-own) _ (valued (goal.at.returns-in_err-sum c).In-Some-term_value names n) (rw (to_z-of_z fit, none) at c.add_term.ensures))
 
 pub loop-joining-preserved : goal.loop-joining-preserved
 loop-joining-preserved c =
-    let fit : SFits w64 c.in-Is.v = search rules in
-    let fits : SFits w64 c.in-Fits.next = search rules in
+    let fit : SFits w64 c.in-Some-term_value.v = search rules in
+    let fits : SFits w64 c.in_ok-sum.sum = search rules in
+    let some : c.add_term.result ≡ Some c.in_ok-sum.sum = grind arith in
     λ names n. rw (to_z-of_z fits)
-    (sum_next _ _ _ _ _ _ c.loop-joining.at (c.loop-joining.invariant names n) c.in-Operator.joining c.in-Operator.k (joint (goal.at.loop-joining-preserved c).In-Operator) _ _ _ (term (goal.at.loop-joining-preserved c).In-Found) _ (valued (goal.at.loop-joining-preserved c).In-Is names n) _ (rw (to_z-of_z fit, c.in-Fits.is) at c.add_term.ensures))
+    (sum_next _ _ _ _ _ _ c.loop-joining.at (c.loop-joining.invariant names n) c.in-Some.joining c.in-Some.k (joint (goal.at.loop-joining-preserved c).In-Some) _ _ _ (term (goal.at.loop-joining-preserved c).In_ok-own) _ (valued (goal.at.loop-joining-preserved c).In-Some-term_value names n) _ (rw (to_z-of_z fit, some) at c.add_term.ensures))
 
-pub returns-in-End : goal.returns-in-End
-returns-in-End c = λ names n. sum_end _ _ _ _ _ _ c.loop-joining.at (goes (goal.at.returns-in-End c).At-loop-joining names n) (rw c.in-End.is at c.joint_at.ensures)
-
-pub returns-in-Malformed : goal.returns-in-Malformed
-returns-in-Malformed c = λ names n. sum_malformed _ _ _ _ _ _ c.loop-joining.at (goes (goal.at.returns-in-Malformed c).At-loop-joining names n) (rw c.in-Malformed.is at c.joint_at.ensures)
+pub returns : goal.returns
+returns c = λ names n. sum_end _ _ _ _ _ _ c.loop-joining.at (goes (goal.at.returns c).At-loop-joining names n) (rw (c.in_ok-joining.was, c.in_default.is) at c.joint_at.ensures)

@@ -1,5 +1,9 @@
 -- `fixups::fill_label_words`: what filling the label words from the kth on gives of the data now is what filling all gave at the start.
-use native.Mathlib.Omega.{arith}
+use Rattle.std.proofs.Common.{Err}
+use mathlib.Core.Path.{◌≡◌, sym, ◌∙◌}
+use Rattle.layout.specs.declared.refusal.Refusal.TheVariants.{UndefinedLabelWord}
+use borrow.Author.Rules.{rules}
+use Rattle.layout.proofs.ResultLaws.{given, missing}
 use Rattle.layout.proofs.AddressLaws.{placed_indexed}
 use Rattle.layout.proofs.FixupLaws.{fixing_first, fixing_within, fixing_room, fixing_stops, fixing_goes, fixing_ends}
 use Rattle.layout.proofs.fixups.fill_label_words.Goals as goal
@@ -13,21 +17,20 @@ get_label_word-word-requires c = fixing_within c.loop-k.invariant c.loop-k-test.
 pub label_address-requires : goal.label_address-requires
 label_address-requires c = placed_indexed c.requires.labels
 
-pub returns-in_default : goal.returns-in_default
-returns-in_default c =
-    fixing_stops c.loop-k.invariant c.loop-k-test.true c.get_label_word-word.result c.get_label_word-word.ensures
-    _ c.span_bytes.ensures (rw c.in_default.is at c.label_address.ensures)
+pub returns-in_err-address : goal.returns-in_err-address
+returns-in_err-address c =
+    let line = c.get_label_word-word.result.line in
+    let e : c.from_residual.result ≡ Err (record { refusal = UndefinedLabelWord; line = line }) = search rules in
+    rw e (fixing_stops c.loop-k.invariant c.loop-k-test.true c.get_label_word-word.result c.get_label_word-word.ensures
+    _ c.span_bytes.ensures (rw (missing _ _ (sym c.ok_or.ensures.value ∙ c.in_err-address.was)) at c.label_address.ensures))
 
 pub put_u32-requires : goal.put_u32-requires
 put_u32-requires c = fixing_room c.loop-k.invariant c.loop-k-test.true c.get_label_word-word.result c.get_label_word-word.ensures c.requires
 
-pub overflow_add-k : goal.overflow_add-k
-overflow_add-k c = omega (arith, c.loop-k-test.true)
-
 pub loop-k-preserved : goal.loop-k-preserved
 loop-k-preserved c =
     fixing_goes c.loop-k.invariant c.loop-k-test.true c.get_label_word-word.result c.get_label_word-word.ensures
-    _ c.span_bytes.ensures c.in-At.address (rw c.in-At.is at c.label_address.ensures)
+    _ c.span_bytes.ensures c.in_ok-address.address (rw (given _ _ (sym c.ok_or.ensures.value ∙ c.in_ok-address.was)) at c.label_address.ensures)
     _ c.put_u32.auto.buf c.put_u32.ensures
 
 pub returns : goal.returns

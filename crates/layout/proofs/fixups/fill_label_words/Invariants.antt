@@ -1,10 +1,6 @@
 -- `fixups::fill_label_words`: what filling the label words from the kth on gives of the data now is what filling all gave at the start.
-use Prim.Native.Nat.{◌-◌}
 use Rattle.layout.proofs.FixupLaws.{Fixing}
 use Rattle.layout.proofs.fixups.fill_label_words.Given as goal
 
 abbrev pub invariant-loop-k : goal.invariant-loop-k
 invariant-loop-k l = Fixing l.text l.labels l.index l.count l.label_words l.words l.initial.data_bytes l.data_bytes l.k
-
-abbrev pub decreases-loop-k : goal.decreases-loop-k
-decreases-loop-k l = l.words - l.k

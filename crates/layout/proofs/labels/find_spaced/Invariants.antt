@@ -1,5 +1,5 @@
 -- `labels::find_spaced`: in order, the records up to here have other names.
-use Prim.Native.Nat.{ℕ, ◌-◌, ◌<◌}
+use Prim.Native.Nat.{ℕ, ◌<◌}
 use mathlib.Core.Path.{◌≡◌}
 use mathlib.Core.Bool.{false}
 use Rattle.numbers.specs.Text.{same, one_spaced}
@@ -8,6 +8,3 @@ use Rattle.layout.proofs.labels.find_spaced.Given as goal
 
 abbrev pub invariant-loop-k : goal.invariant-loop-k
 invariant-loop-k l = (i : ℕ) → i < l.k → same (label_name_at l.text l.labels i) (one_spaced l.operand) ≡ false
-
-abbrev pub decreases-loop-k : goal.decreases-loop-k
-decreases-loop-k l = l.count - l.k

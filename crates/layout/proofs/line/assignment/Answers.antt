@@ -2,7 +2,6 @@
 use Prim.Native.Nat.{ℕ, ◌+◌, ◌-◌, ◌≤◌}
 use mathlib.Core.Path.{◌≡◌, ap, sym, ◌∙◌}
 use mathlib.Core.Bool.{false}
-use native.Mathlib.Nat.{le_of_eq}
 use native.Mathlib.Omega.{arith}
 use lib.ListN.{length, take, drop}
 use Rattle.numbers.specs.Text.{text, byte, starts_with, index_of}
@@ -21,9 +20,6 @@ whole d = whole_part _ _ _ _ d.span_bytes-bytes.ensures d.part_to-whole.ensures
 
 plain : (d : Else-first_is) → starts_with (text ".") (spanned d.args.text.now d.args.part) ≡ false
 plain d = sym (rw d.span_bytes-bytes.ensures at d.first_is.ensures) ∙ d.if-first_is.false
-
-pub part_to-whole-requires : goal.part_to-whole-requires
-part_to-whole-requires c = le_of_eq (ap length c.span_bytes-bytes.ensures)
 
 pub returns-then-first_is : goal.returns-then-first_is
 returns-then-first_is c =
@@ -64,12 +60,6 @@ returns-then-bytes-sign c =
     let p = piece_at a.text.now a.part in
     let other = unsigned-other a.section p (a.from + c.find.result) (sign (goal.at.returns-then-bytes-sign c).Else-first_is _ c.find.ensures) (plain (goal.at.returns-then-bytes-sign c).Else-first_is) (rw s at c.if-bytes-sign.true) in
     c.other_in-then-bytes-sign.ensures p (whole (goal.at.returns-then-bytes-sign c).After-part_to-whole) ∙ ap statement_code (sym other)
-
-pub trim_to-name-requires : goal.trim_to-name-requires
-trim_to-name-requires c = rw (← c.span_bytes-bytes.ensures) (search rules)
-
-pub trim_from-expr-requires : goal.trim_from-expr-requires
-trim_from-expr-requires c = rw (← c.span_bytes-bytes.ensures) (search rules)
 
 pub returns-then-name-expr : goal.returns-then-name-expr
 returns-then-name-expr c =

@@ -3,14 +3,7 @@ use mathlib.Core.Path.{ap, sym, ◌∙◌}
 use Rattle.layout.specs.Code.Spans.{piece_at, statement_code}
 use Rattle.layout.proofs.SpanLaws.{count_within}
 use Rattle.layout.proofs.StatementLaws.{equ_comma, equ_blank}
-use borrow.Author.Rules.{rules}
 use Rattle.layout.proofs.line.equ_of.Goals as goal
-
-pub trim_to-name-requires : goal.trim_to-name-requires
-trim_to-name-requires c = rw (← c.span_bytes-bytes.ensures) (search rules)
-
-pub trim_from-expr-requires : goal.trim_from-expr-requires
-trim_from-expr-requires c = rw (← c.span_bytes-bytes.ensures) (search rules)
 
 pub returns-then-comma-bytes : goal.returns-then-comma-bytes
 returns-then-comma-bytes c =

@@ -7,7 +7,7 @@ use Rattle.layout.proofs.line.line_of.Goals as goal
 pub returns-then-is_section_line : goal.returns-then-is_section_line
 returns-then-is_section_line c =
     let whole = sym (rw c.span_bytes-bytes.ensures at c.is_section_line.ensures) ∙ c.if-is_section_line.true in
-    rw (c.section_line.ensures, c.span_bytes-bytes.ensures) (section_says _ _ c.requires.1 _ whole)
+    section_says _ _ c.requires.1 _ whole _ (rw c.span_bytes-bytes.ensures at c.section_line.ensures)
 
 pub part_label-parted-requires : goal.part_label-parted-requires
 part_label-parted-requires c = cut_marked _ _ c.requires.1

@@ -27,12 +27,6 @@ is_bare-requires c =
 pub returns-then-is_bare : goal.returns-then-is_bare
 returns-then-is_bare c = string_parts _ _ _ _ (colon (goal.at.returns-then-is_bare c).After-find_from-colon) _ c.requires (sym (rw c.span_bytes-bytes.ensures at c.is_bare.ensures) ∙ c.if-is_bare.true)
 
-pub trim_to-name-requires : goal.trim_to-name-requires
-trim_to-name-requires c = rw (← c.span_bytes-bytes.ensures) (search rules)
-
-pub trim_from-rest-requires : goal.trim_from-rest-requires
-trim_from-rest-requires c = rw (← c.span_bytes-bytes.ensures) (search rules)
-
 pub returns : goal.returns
 returns c =
     let s = c.span_bytes-bytes.ensures in

@@ -1,25 +1,16 @@
 -- `line::stored`: a string to the line's end, or up to the statement's; anything else as it is.
 use native.Mathlib.Omega.{arith}
-use borrow.Author.Tests.{lt-ltb, le-ltb}
+use borrow.Author.Tests.{le-ltb}
 use Rattle.layout.proofs.CutLaws.{cut_end}
-use Rattle.layout.proofs.LineLaws.{cut_starts, stored_other, stored_unchanged, stored_string}
+use Rattle.layout.proofs.LineLaws.{cut_starts, stored_string}
 use borrow.Author.Rules.{rules}
 use Rattle.layout.proofs.line.stored.Goals as goal
-
-pub returns-in_default : goal.returns-in_default
-returns-in_default c = let a = c.args in stored_other a.text.now a.cut a.part a.rest a.what c.in_default.not-Text
 
 pub slice_bounds-before-end : goal.slice_bounds-before-end
 slice_bounds-before-end c =
     let pre = c.requires in
     let end = cut_end c.args.text.now c.args.cut pre.0 in
     search rules
-
-pub returns-then-find-before : goal.returns-then-find-before
-returns-then-find-before c =
-    let a = c.args in
-    λ q e. rw c.in-Text.is
-    (stored_unchanged a.text.now a.cut a.part a.rest _ (rw (← c.find.ensures) (lt-ltb _ _ c.if-find-before.true)) q e)
 
 pub returns : goal.returns
 returns c =

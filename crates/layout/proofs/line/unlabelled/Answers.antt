@@ -2,7 +2,7 @@
 use mathlib.Core.Path.{◌≡◌, ap, sym, ◌∙◌}
 use lib.ListN.{length}
 use Prim.Native.Nat.{ℕ}
-use Rattle.numbers.specs.Results.{Result}
+use Rattle.std.proofs.Common.{Result}
 use Rattle.numbers.specs.Code.Spans.{spanned}
 use Rattle.layout.specs.Statements.{Statement, assignment_of}
 use Rattle.layout.specs.Code.Spans.{piece_at, statement_code}
@@ -21,24 +21,15 @@ returns-then-bytes-eq0 c =
     let a = c.args in
     said_empty a.text.now a.cut a.part a.section (rw c.span_bytes-bytes.ensures at c.if-bytes-eq0.true)
 
-pub directive_in-requires : goal.directive_in-requires
-directive_in-requires c =
-    let pre = c.requires in
-    let within = rw (c.span_bytes-bytes.ensures, c.in-As.is) at c.directive_of.ensures.1 in
-    (pre.1, pre.2, within.0)
-
-pub assignment-requires : goal.assignment-requires
-assignment-requires c = c.requires.3
-
-pub returns-in-As : goal.returns-in-As
-returns-in-As c =
+pub returns-in-Some : goal.returns-in-Some
+returns-in-Some c =
     let a = c.args in
-    let row = rw (c.span_bytes-bytes.ensures, c.in-As.is) at c.directive_of.ensures.0 in
-    c.directive_in.ensures ∙ ap (λ (x : Result ℕ Statement). statement_code (says_in a.text.now a.cut a.part x)) (sym (directive_said a.section (piece_at a.text.now a.part) (some_bytes (goal.at.returns-in-As c).Else-bytes-eq0) _ row))
+    let row = rw (c.span_bytes-bytes.ensures, c.in-Some.is) at c.directive_of.ensures.0 in
+    c.directive_in.ensures ∙ ap (λ (x : Result Statement ℕ). statement_code (says_in a.text.now a.cut a.part x)) (sym (directive_said a.section (piece_at a.text.now a.part) (some_bytes (goal.at.returns-in-Some c).Else-bytes-eq0) _ row))
 
-pub returns-in-Nothing : goal.returns-in-Nothing
-returns-in-Nothing c =
+pub returns-in-None : goal.returns-in-None
+returns-in-None c =
     let a = c.args in
-    let no_row = rw (c.span_bytes-bytes.ensures, c.in-Nothing.is) at c.directive_of.ensures.0 in
+    let no_row = rw (c.span_bytes-bytes.ensures, c.in-None.is) at c.directive_of.ensures.0 in
     said_as_is a.text.now a.cut a.part (assignment_of a.section (piece_at a.text.now a.part)) (assignment_stringless _ a.section _) _ c.assignment.ensures
-    ∙ ap (λ (x : Result ℕ Statement). statement_code (says_in a.text.now a.cut a.part x)) (sym (rowless_other a.section (piece_at a.text.now a.part) (some_bytes (goal.at.returns-in-Nothing c).Else-bytes-eq0) no_row))
+    ∙ ap (λ (x : Result Statement ℕ). statement_code (says_in a.text.now a.cut a.part x)) (sym (rowless_other a.section (piece_at a.text.now a.part) (some_bytes (goal.at.returns-in-None c).Else-bytes-eq0) no_row))

@@ -33,7 +33,7 @@ returns-in_default c =
 pub returns-in_default-item_operand_at : goal.returns-in_default-item_operand_at
 returns-in_default-item_operand_at c =
     after c.args.s.now c.word_len-first.result 1 c.word_len-first.ensures
-    (li_one _ _ _ (sym c.item_operand_at.ensures ∙ c.in-At.is) (sym c.item_operand_at-2.ensures ∙ c.in_default-item_operand_at.is))
+    (li_one _ _ _ (sym c.item_operand_at.ensures ∙ c.in-Some.is) (sym c.item_operand_at-2.ensures ∙ c.in_default-item_operand_at.is))
 
 -- two operands: what the second reads as
 second : (c : After-is_single) (n : ℕ) → cond c.is_single.result 1 2 ≡ n
@@ -41,7 +41,7 @@ second : (c : After-is_single) (n : ℕ) → cond c.is_single.result 1 2 ≡ n
     (pseudo_operands c.args.s.now)
 second c n h =
     after c.args.s.now c.word_len-first.result n c.word_len-first.ensures
-    (li_two _ _ _ (sym c.item_operand_at.ensures ∙ c.in-At.is) _ _ (sym c.item_operand_at-2.ensures ∙ c.in-At-item_operand_at.is)
+    (li_two _ _ _ (sym c.item_operand_at.ensures ∙ c.in-Some.is) _ _ (sym c.item_operand_at-2.ensures ∙ c.in-Some-item_operand_at.is)
     ∙ rw (← c.span_bytes.ensures, ← c.parse_imm_one_spaced.ensures, ← c.is_single.ensures) h)
 
 pub returns-then-is_single : goal.returns-then-is_single

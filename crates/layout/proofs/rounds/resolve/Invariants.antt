@@ -1,7 +1,5 @@
 -- `rounds::resolve`: what the rounds give from here on is what they give of all equates.
-use Prim.Native.Nat.{ℕ, ◌-◌}
-use mathlib.Core.Path.{◌≡◌}
-use mathlib.Core.Bool.{false}
+use Prim.Native.Nat.{ℕ}
 use lib.ListN.{length}
 use Rattle.layout.specs.State.{State}
 use Rattle.layout.specs.Code.Resolves.{RoundsStand}
@@ -9,18 +7,13 @@ use Rattle.layout.proofs.RoundSteps.{frame_of, Standing, Walking, Rounding}
 use Rattle.layout.proofs.rounds.resolve.Given as goal
 
 abbrev pub invariant-loop-k : goal.invariant-loop-k
-invariant-loop-k l = (l.refused ≡ l.initial.refused)
-    × ((base : ℕ) (σ : State) (bytes places : ℕ) → Standing (frame_of l.text l.equate_index l.count base σ bytes places) l.labels l.label_index l.label_count l.starts l.exprs
-    → Walking (frame_of l.text l.equate_index l.count base σ bytes places) l.round l.before l.initial.equates l.initial.partials l.initial.evaluations l.initial.pending l.initial.k
-    → Walking (frame_of l.text l.equate_index l.count base σ bytes places) l.round l.before l.equates l.partials l.evaluations l.pending l.k)
+invariant-loop-k l = (base : ℕ) (σ : State) (bytes places : ℕ) → Standing (frame_of l.text l.equate_index l.count base σ bytes places) l.labels l.label_index l.label_count l.starts l.exprs
+    → Walking (frame_of l.text l.equate_index l.count base σ bytes places) l.round l.before l.initial.equates l.initial.partials l.initial.evaluations l.initial.pending 0
+    → Walking (frame_of l.text l.equate_index l.count base σ bytes places) l.round l.before l.equates l.partials l.evaluations l.pending l.k
 
-abbrev pub decreases-loop-k : goal.decreases-loop-k
-decreases-loop-k l = l.count - l.k
+abbrev pub invariant-loop-pending : goal.invariant-loop-pending
+invariant-loop-pending l = (base : ℕ) (σ : State) → RoundsStand l.text l.labels l.label_index l.label_count l.starts l.initial.equates l.equate_index l.count l.exprs l.initial.partials base σ
+    → Rounding (frame_of l.text l.equate_index l.count base σ (length l.initial.equates) (length l.initial.partials)) l.equates l.partials l.evaluations l.pending l.round
 
-abbrev pub invariant-rounds : goal.invariant-rounds
-invariant-rounds l = (l.refused ≡ false)
-    × ((base : ℕ) (σ : State) → RoundsStand l.text l.labels l.label_index l.label_count l.starts l.initial.equates l.equate_index l.count l.exprs l.initial.partials base σ
-    → Rounding (frame_of l.text l.equate_index l.count base σ (length l.initial.equates) (length l.initial.partials)) l.equates l.partials l.evaluations l.pending l.round)
-
-abbrev pub decreases-rounds : goal.decreases-rounds
-decreases-rounds l = l.pending
+abbrev pub decreases-loop-pending : goal.decreases-loop-pending
+decreases-loop-pending l = l.pending

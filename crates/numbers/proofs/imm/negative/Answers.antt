@@ -1,32 +1,28 @@
 -- `imm::negative`: digits whose value is at most 2^63 are an i64 after a minus, made without passing its range.
 use Prim.Native.Nat.{◌-◌, ◌≤◌}
-use mathlib.Core.Path.{◌≡◌, refl, sym, ◌∙◌, ap}
+use mathlib.Core.Path.{◌≡◌, refl, sym, ◌∙◌}
 use native.Mathlib.Omega.{arith}
 use mir.Syntax.{w64}
 use mir.Val.{to_z}
 use mir.Facts.{to_z-of_z, to_z_pos}
 use lib.IntN.{pos}
-use Rattle.numbers.specs.Code.Meanings.{digits_value}
 use Rattle.numbers.proofs.Values.{digits_within}
 use Rattle.numbers.proofs.Integers.{minus_magnitude, magnitude_fits}
 use Rattle.numbers.proofs.imm.negative.Goals as goal
 use Rattle.numbers.proofs.imm.negative.Goals.{Else-n-eq0}
 
-pub returns-in_default : goal.returns-in_default
-returns-in_default c = rw (← c.parse_digits.ensures, c.in_default.is) refl
-
 pub returns-then-n-eq0 : goal.returns-then-n-eq0
-returns-then-n-eq0 c = rw (← c.parse_digits.ensures, c.in-Value.is, c.if-n-eq0.true) refl
+returns-then-n-eq0 c = rw (← c.parse_digits.ensures, c.in_ok-n.was, c.if-n-eq0.true) refl
 
 -- what was read is within its limit
-small : (c : Else-n-eq0) → c.in-Value.n ≤ 9223372036854775808
-small c = digits_within _ _ _ _ (sym c.parse_digits.ensures ∙ ap digits_value c.in-Value.is)
+small : (c : Else-n-eq0) → c.in_ok-n.n ≤ 9223372036854775808
+small c = digits_within _ _ _ _ (sym c.parse_digits.ensures ∙ c.in_ok-n.was)
 
 pub overflow_cast-result : goal.overflow_cast-result
 overflow_cast-result c = omega (arith, small c, c.if-n-eq0.false)
 
 -- the machine reads n - 1 as an i64
-less_one : (c : Else-n-eq0) → to_z w64 (c.in-Value.n - 1) ≡ pos (c.in-Value.n - 1)
+less_one : (c : Else-n-eq0) → to_z w64 (c.in_ok-n.n - 1) ≡ pos (c.in_ok-n.n - 1)
 less_one c = to_z_pos w64 (omega (arith, small c, c.if-n-eq0.false))
 
 pub overflow_sub-result-2 : goal.overflow_sub-result-2
@@ -36,7 +32,7 @@ pub returns : goal.returns
 returns c =
     rw (
       ← c.parse_digits.ensures,
-      c.in-Value.is,
+      c.in_ok-n.was,
       less_one c,
       minus_magnitude _ c.if-n-eq0.false,
       to_z-of_z (magnitude_fits _ c.if-n-eq0.false (small c)),

@@ -1,6 +1,6 @@
 -- `literals::parse_char_lit`: the code's tests are the definition's, in its order.
 use mathlib.Core.Path.{ap}
-use mathlib.Core.Option.{some}
+use Rattle.std.proofs.Common.{Some}
 use native.Mathlib.Omega.{arith}
 use mir.Syntax.{w32}
 use mir.Facts.{to_z_pos}
@@ -14,7 +14,7 @@ overflow_cast-result c = sfits_of (omega (arith, c.type_inv.s 1))
 
 pub returns-then-s-c : goal.returns-then-s-c
 unfolding char_lit_of
-returns-then-s-c c = simp (c.if-s-c.true, eq-eqb _ _ c.if-s-eq3.true) (ap some (to_z_pos w32 (omega (arith, c.type_inv.s 1))))
+returns-then-s-c c = simp (c.if-s-c.true, eq-eqb _ _ c.if-s-eq3.true) (ap Some (to_z_pos w32 (omega (arith, c.type_inv.s 1))))
 
 pub returns-then-s-eq3 : goal.returns-then-s-eq3
 unfolding char_lit_of

@@ -1,5 +1,5 @@
--- `registers::abi_register`: the code's two tables are the keys and numbers of the ABI's names, and a key tells its name;
--- the invariant says that what the names from n on give is what all of them give.
+-- `registers::abi_register`: the code's table has the keys and numbers of the ABI's names, and a key tells its name;
+-- the invariant says that what the names that are left give is what all of them give.
 use mathlib.Core.Path.{refl, sym, ◌∙◌}
 use mathlib.Core.List.{map}
 use borrow.Author.Rules.{rules}
@@ -12,21 +12,22 @@ use Rattle.numbers.proofs.registers.abi_register.Goals as goal
 pub returns-then-s-gt4 : goal.returns-then-s-gt4
 returns-then-s-gt4 c = abi_long c.args.s.now c.if-s-gt4.true
 
-pub loop-n-init : goal.loop-n-init
-loop-n-init c = (search rules, refl)
-
-pub returns-then-keys-n : goal.returns-then-keys-n
+pub loop-key-init : goal.loop-key-init
 unfolding abi_names key_of
-returns-then-keys-n c =
-    let s = c.args.s.now in
-    let hit = abi_hit s (λ i. (c.type_inv.s i).fits) c.loop-n.n _ c.name_key-key.ensures (search rules) c.if-keys-n.true in
-    c.new.ensures ∙ abi-checked (map lower_case s) _ (sym c.loop-n.invariant.1 ∙ hit)
+loop-key-init c = (refl, refl)
 
-pub loop-n-preserved : goal.loop-n-preserved
+pub returns-then-key-name : goal.returns-then-key-name
 unfolding abi_names key_of
-loop-n-preserved c =
+returns-then-key-name c =
     let s = c.args.s.now in
-    (search rules, abi-miss s (λ i. (c.type_inv.s i).fits) c.loop-n.n _ c.name_key-key.ensures (search rules) c.if-keys-n.false ∙ c.loop-n.invariant.1)
+    let hit = abi_hit s (λ i. (c.type_inv.s i).fits) c.loop-key.key-index _ _ c.name_key-name.ensures (search rules) c.if-key-name.true in
+    c.new.ensures ∙ abi-checked (map lower_case s) _ (sym c.loop-key.invariant.1 ∙ hit)
+
+pub loop-key-preserved : goal.loop-key-preserved
+unfolding abi_names key_of
+loop-key-preserved c =
+    let s = c.args.s.now in
+    (refl, abi-miss s (λ i. (c.type_inv.s i).fits) c.loop-key.key-index _ _ c.name_key-name.ensures (search rules) c.if-key-name.false ∙ c.loop-key.invariant.1)
 
 pub returns : goal.returns
-returns c = sym (abi-none c.args.s.now c.loop-n.n c.loop-n-test.false) ∙ c.loop-n.invariant.1
+returns c = sym (abi-none c.args.s.now c.loop-key.key-index c.loop-key-test.false) ∙ c.loop-key.invariant.1

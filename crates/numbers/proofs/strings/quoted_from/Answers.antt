@@ -25,18 +25,18 @@ returns-then-not-nothing_beside c =
     let some_beside = sym (rw tail at c.nothing_beside.ensures) ∙ c.if-not-nothing_beside.true in
     rw (beside _ _ _ c.requires c.mark_from-mark.ensures _ c.quote_from-end.ensures c.if-s-end.false some_beside) refl
 
-pub returns-in_default : goal.returns-in_default
-returns-in_default c =
-    let none-counted = rw c.in_default.is at c.decoded_len.ensures in
-    counted _ _ _ c.requires c.mark_from-mark.ensures _ c.quote_from-end.ensures c.if-s-end.false (clear (goal.at.returns-in_default c).Else-not-nothing_beside) _ none-counted
-
 pub overflow_add-result : goal.overflow_add-result
 overflow_add-result c =
-    let some-counted = rw c.in-Is.is at c.decoded_len.ensures in
+    let some-counted = rw c.in_ok-size.was at c.decoded_len.ensures in
     let h = counted_few _ _ _ c.requires c.mark_from-mark.ensures _ c.quote_from-end.ensures c.if-s-end.false _ some-counted in
     search rules
 
 pub returns : goal.returns
 returns c =
-    let some-counted = rw c.in-Is.is at c.decoded_len.ensures in
+    let some-counted = rw c.in_ok-size.was at c.decoded_len.ensures in
     counted _ _ _ c.requires c.mark_from-mark.ensures _ c.quote_from-end.ensures c.if-s-end.false (clear (goal.at.returns c).Else-not-nothing_beside) _ some-counted
+
+pub returns-in_err-size : goal.returns-in_err-size
+returns-in_err-size c =
+    let none-counted = rw c.in_err-size.was at c.decoded_len.ensures in
+    c.from_residual.ensures ∙ counted _ _ _ c.requires c.mark_from-mark.ensures _ c.quote_from-end.ensures c.if-s-end.false (clear (goal.at.returns-in_err-size c).Else-not-nothing_beside) _ none-counted

@@ -1,35 +1,34 @@
 -- `text::same_one_spaced`: the invariant says that comparing what is left of the operand with what is left of the name gives what comparing the whole gives.
-use mathlib.Core.Path.{refl, sym, ◌∙◌, ap}
+use mathlib.Core.Path.{refl, sym, ◌∙◌}
 use borrow.Author.Rules.{rules}
-use Rattle.numbers.specs.Code.Meanings.{one_spaced_byte}
 use Rattle.numbers.proofs.Spaced.{pass, longer, meet, differ, both_end}
 use Rattle.numbers.proofs.text.same_one_spaced.Goals as goal
 
 pub loop-i-init : goal.loop-i-init
 loop-i-init c = (search rules, search rules, refl)
 
-pub loop-i-preserved-in-Nothing : goal.loop-i-preserved-in-Nothing
-loop-i-preserved-in-Nothing c =
+pub loop-i-preserved-in-None : goal.loop-i-preserved-in-None
+loop-i-preserved-in-None c =
     let a = c.args in
-    let gives = sym c.one_spaced_at.ensures ∙ ap one_spaced_byte c.in-Nothing.is in
+    let gives = sym c.one_spaced_at.ensures ∙ c.in-None.is in
     (search rules, search rules, pass a.operand.now a.name.now c.loop-i.i c.loop-i.j _ (search rules) c.loop-i.invariant.2 gives)
 
 pub returns-then-name-j : goal.returns-then-name-j
 returns-then-name-j c =
     let a = c.args in
-    let gives = sym c.one_spaced_at.ensures ∙ ap one_spaced_byte c.in-Byte.is in
+    let gives = sym c.one_spaced_at.ensures ∙ c.in-Some.is in
     longer a.operand.now a.name.now c.loop-i.i c.loop-i.j _ (search rules) c.loop-i.invariant.2 _ gives c.if-name-j.true
 
 pub returns-then-name-j-2 : goal.returns-then-name-j-2
 returns-then-name-j-2 c =
     let a = c.args in
-    let gives = sym c.one_spaced_at.ensures ∙ ap one_spaced_byte c.in-Byte.is in
+    let gives = sym c.one_spaced_at.ensures ∙ c.in-Some.is in
     differ a.operand.now a.name.now c.loop-i.i c.loop-i.j _ (search rules) c.loop-i.invariant.2 _ gives (search rules) c.if-name-j-2.true
 
 pub loop-i-preserved : goal.loop-i-preserved
 loop-i-preserved c =
     let a = c.args in
-    let gives = sym c.one_spaced_at.ensures ∙ ap one_spaced_byte c.in-Byte.is in
+    let gives = sym c.one_spaced_at.ensures ∙ c.in-Some.is in
     (search rules, search rules, meet a.operand.now a.name.now c.loop-i.i c.loop-i.j _ (search rules) c.loop-i.invariant.2 _ gives (search rules) c.if-name-j-2.false)
 
 pub returns : goal.returns

@@ -1,48 +1,25 @@
--- `lines::keep`: the bytes moved so far are the part's first, and from there on the block is as it was, so each byte is read before it is written.
-use Rattle.std.proofs.Common.{◌≡◌, ◌+◌, ◌<◌, length, take, drop, refl, ap, ◌∙◌, arith, length-drop, length-set, length-take, rules}
-use Rattle.numbers.specs.Code.Spans.{spanned}
-use Rattle.replay.proofs.Kept.{part_within, part_whole, kept_more, rest_less}
+-- `lines::keep`: a part that has bytes stands within the block.
+use Rattle.std.proofs.Common.{◌+◌, ◌≤◌, length, arith, rules}
+use Rattle.replay.proofs.Kept.{part_end, part_kept}
 use Rattle.replay.proofs.lines.keep.Goals as goal
-use Rattle.replay.proofs.lines.keep.Goals.{In-loop-n}
+use Rattle.replay.proofs.lines.keep.Goals.{Then-len-gt0}
 
-within : (c : In-loop-n)
-    → c.args.part.start + c.loop-n.n < length c.args.block.now
-within c =
-    let a = c.args in
-    part_within a.block.now a.part _ c.loop-n.n c.span_bytes-len.ensures c.loop-n-test.true
+within : (c : Then-len-gt0) → c.args.part.start + length c.span_bytes-len.result.now ≤ length c.args.block.now
+within c = part_end c.args.block.now c.args.part _ c.span_bytes-len.ensures c.if-len-gt0.true
 
-pub loop-n-init : goal.loop-n-init
-loop-n-init c = (search rules, refl, refl, refl)
-
-pub overflow_add-block : goal.overflow_add-block
-overflow_add-block c =
-    let h = within c in
+pub overflow_add-part : goal.overflow_add-part
+overflow_add-part c =
+    let h = within (goal.at.overflow_add-part c).Then-len-gt0 in
     search rules
 
-pub bounds-block-start : goal.bounds-block-start
-bounds-block-start c = omega (arith, within (goal.at.bounds-block-start c).In-loop-n, c.loop-n.invariant.1)
+pub copy_within-requires-clause-in_bounds : goal.copy_within-requires-clause-in_bounds
+copy_within-requires-clause-in_bounds c = within (goal.at.copy_within-requires-clause-in_bounds c).Then-len-gt0
 
-pub bounds-block-n : goal.bounds-block-n
-bounds-block-n c = omega (arith, within (goal.at.bounds-block-n c).In-loop-n, c.loop-n.invariant.1)
+pub copy_within-requires-clause-dest_in_bounds : goal.copy_within-requires-clause-dest_in_bounds
+copy_within-requires-clause-dest_in_bounds c = omega (arith, within (goal.at.copy_within-requires-clause-dest_in_bounds c).Then-len-gt0)
 
-pub loop-n-preserved : goal.loop-n-preserved
-loop-n-preserved c =
-    let a = c.args in
-    let h = within (goal.at.loop-n-preserved c).In-loop-n in (
-      search rules,
-      length-set c.loop-n.block c.loop-n.n _ ∙ c.loop-n.invariant.1,
-      kept_more a.block.now c.loop-n.block a.part.start c.loop-n.n c.loop-n.invariant.3 (omega (arith, h, c.loop-n.invariant.1)) (omega (arith, h, length-drop a.part.start a.block.now)) c.loop-n.invariant.2,
-      rest_less a.block.now c.loop-n.block a.part.start c.loop-n.n c.loop-n.invariant.3 _,
-    )
+pub returns-then-len-gt0-clause-upper_bound : goal.returns-then-len-gt0-clause-upper_bound
+returns-then-len-gt0-clause-upper_bound c = omega (arith, within (goal.at.returns-then-len-gt0-clause-upper_bound c).Then-len-gt0, c.copy_within.ensures.len)
 
-pub returns : goal.returns
-returns c =
-    let a = c.args in
-    let e = ap length c.span_bytes-len.ensures in
-    let n : c.loop-n.n ≡ length (spanned a.block.now a.part) = omega (arith, c.loop-n.invariant.0, c.loop-n-test.false, e) in
-    let whole = c.loop-n.invariant.2 ∙ ap (λ k. take k (drop a.part.start a.block.now)) n ∙ part_whole a.block.now a.part in
-    record {
-      upper_bound = omega (arith, ap length whole, n, length-take c.loop-n.n c.loop-n.block);
-      value = n;
-      block_after = whole;
-    }
+pub returns-then-len-gt0-clause-block_after : goal.returns-then-len-gt0-clause-block_after
+returns-then-len-gt0-clause-block_after c = part_kept c.args.block.now c.args.part _ _ c.span_bytes-len.ensures c.copy_within.ensures.after

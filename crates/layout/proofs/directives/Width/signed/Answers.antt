@@ -2,7 +2,7 @@
 use Prim.Native.Nat.{ℕ, ◌^◌, ◌<◌}
 use mathlib.Core.Path.{◌≡◌}
 use mathlib.Core.List.{List}
-use mathlib.Core.Option.{some}
+use Rattle.std.proofs.Common.{Some}
 use native.Mathlib.Omega.{arith}
 use lib.IntN.{ℤ, pos}
 use mir.Syntax.{w32, w64}
@@ -19,7 +19,7 @@ module _ (v : ℕ) (h : v < 2 ^ 32) (z : ℤ) (f : SFits w32 z) where
   wide : SFits w64 (to_z w32 (of_z w32 z))
   wide = rw (to_z-of_z f) (sfits_widen tt f)
 
-  narrow : z ≡ signed_of 32 v → (s : List ℕ) → imm64_of s ≡ some (pos v) → imm_of s ≡ some (to_z w64 (of_z w64 (to_z w32 (of_z w32 z))))
+  narrow : z ≡ signed_of 32 v → (s : List ℕ) → imm64_of s ≡ Some (pos v) → imm_of s ≡ Some (to_z w64 (of_z w64 (to_z w32 (of_z w32 z))))
   narrow e s reads = rw (to_z-of_z wide, to_z-of_z f, e) (imm_unsigned s v h reads)
 
 pub overflow_cast-result : goal.overflow_cast-result

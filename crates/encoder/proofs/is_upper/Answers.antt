@@ -1,6 +1,0 @@
--- `is_upper`: the tests are those of the definition; the machine reads the immediate back from its bits.
-use Rattle.std.proofs.Common.{refl, to_z-of_z}
-use Rattle.encoder.proofs.is_upper.Goals as goal
-
-pub returns : goal.returns
-returns c = rw (c.bits_of_i32.ensures, to_z-of_z c.ranges.imm) refl

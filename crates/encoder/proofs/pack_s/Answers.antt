@@ -1,6 +1,0 @@
--- `pack_s`: what the callees ensure.
-use Rattle.std.proofs.Common.{refl}
-use Rattle.encoder.proofs.pack_s.Goals as goal
-
-pub returns : goal.returns
-returns c = rw (c.answer.ensures, c.s_word.ensures, c.is_register-2.ensures, c.is_register.ensures) refl

@@ -1,9 +1,0 @@
--- `listed::start_of`: the bytes are counted.
-use Rattle.std.proofs.Common.{◌-◌, ◌≤◌, length}
-use Rattle.layout_cases.proofs.listed.start_of.Given as goal
-
-abbrev pub invariant-loop-i : goal.invariant-loop-i
-invariant-loop-i l = l.i ≤ length l.line
-
-abbrev pub decreases-loop-i : goal.decreases-loop-i
-decreases-loop-i l = length l.line - l.i
