@@ -37,10 +37,8 @@ fn put_fields(dst: &mut [u8], numbers: &[u64]) -> usize
     ensures { Begins (fields numbers.now) dst.old dst.new result }
 {
     let mut at = 0;
-    let mut i = 0;
-    while i < numbers.len() {
-        at += put_field(&mut dst[at..], numbers[i]);
-        i += 1;
+    for &n in numbers {
+        at += put_field(&mut dst[at..], n);
     }
     dst[at] = b'\n';
     at + 1

@@ -8,6 +8,9 @@ use mathlib.Core.List.{List, [], ◌∷◌, ◌++◌, append_assoc, append-nil}
 use lib.ListN.{length, take, drop, get_or, set, replicate, length-append, length-drop, length-replicate, drop_of_length-le}
 use lib.Arith.{mod-mul}
 use lib.Seq.{take_all, take_at, drop_at, take-suc, drop-cons, drop-drop, take-append-le, drop-append-le, drop-append-add, set_at, sets-eq, length-take-le, append_snoc}
+use Rattle.std.specs.Int.{w64, cast_unsigned, byte_at, bytes_low_first}
+use lib.IntN.{ℤ, pos, negsuc}
+use Rattle.numbers.specs.Ints.{bits}
 use Rattle.layout.specs.Bytes.{little_endian, put, padded}
 use Rattle.layout.specs.Records.{little_endian_value}
 
@@ -113,7 +116,7 @@ little_endian_more zero v = rw (div-one v)
 little_endian_more (suc w) v = ap (λ (bs : List ℕ). v % 256 ∷ bs) (little_endian_more w (v / 256) ∙ rw (high w v))
 
 -- the low bytes are those of the low part
-little_endian-low : (w v : ℕ) → little_endian w (v % 256 ^ w) ≡ little_endian w v
+pub little_endian-low : (w v : ℕ) → little_endian w (v % 256 ^ w) ≡ little_endian w v
 unfolding little_endian
 little_endian-low zero v = refl
 little_endian-low (suc w) v =
@@ -183,3 +186,33 @@ eights (a ∷ b ∷ c ∷ d ∷ e ∷ f ∷ g ∷ i ∷ ys) h = omega arith
 pub eight_at_lem : (xs : List ℕ) (at : ℕ) → at + 8 ≤ length xs
     → little_endian_value (take 4 (drop at xs)) + 4294967296 * little_endian_value (take 4 (drop (at + 4) xs)) ≡ little_endian_value (take 8 (drop at xs))
 eight_at_lem xs at h = rw (← drop-drop 4 at xs) (eights (drop at xs) (rw (length-drop at xs) (omega arith)))
+
+-- ---- the library's bytes of a number, and a part of a buffer
+
+byte_is : (i n : ℕ) → byte_at i n ≡ n / 256 ^ i % 256
+byte_is zero n = rw (div-one n)
+byte_is (suc i) n = refl
+
+low_first : (k i n : ℕ) → bytes_low_first i k n ≡ little_endian k (n / 256 ^ i)
+unfolding little_endian
+low_first zero i n = refl
+low_first (suc k) i n =
+    let next : n / 256 ^ suc i ≡ n / 256 ^ i / 256 = rw (pow-suc 256 i) (sym (div-div-eq-div-mul n (256 ^ i) 256)) in
+    ap₂ (λ (b : ℕ) (bs : List ℕ). b ∷ bs) (byte_is i n) (low_first k (suc i) n ∙ ap (little_endian k) next)
+
+pub low_bytes : (k n : ℕ) → bytes_low_first 0 k n ≡ little_endian k n
+low_bytes k n = low_first k 0 n ∙ ap (little_endian k) (div-one n)
+
+-- n bytes copied to a place
+pub put_part : (at n : ℕ) (vs d : List ℕ) → length vs ≡ n → take at d ++ (vs ++ drop (at + n - at) (drop at d)) ≡ put at vs d
+put_part at n vs d e =
+    let k : at + n - at ≡ n = omega arith in
+    ap (λ (m : ℕ). take at d ++ (vs ++ drop m (drop at d))) k
+    ∙ ap (λ (l : List ℕ). take at d ++ (vs ++ l)) (drop-drop n at d)
+    ∙ ap (λ (m : ℕ). take at d ++ (vs ++ drop (at + m) d)) (sym e)
+    ∙ sym (append_assoc (take at d) vs (drop (at + length vs) d))
+
+-- a number of 64 signed bits as the library has its bits
+pub cast_bits : (v : ℤ) → cast_unsigned w64 v ≡ bits 64 v
+cast_bits (pos n) = refl
+cast_bits (negsuc n) = refl

@@ -146,7 +146,7 @@ module _ {t : List ℕ} {base : ℕ} {st : Counters} {l n e x i d lw w : List �
     abbrev scope : Scope
     scope = record { base = base; state = σ; known = y.it.turns.known }
 
-    abbrev pub unemitted_stands : Unemitted t l' n st.labels e' ix st.rest.equates starts i st.rest.own.items.items w
+    abbrev pub unemitted_stands : Unemitted t l' n st.labels t e' ix st.rest.equates starts i st.rest.own.items.items w
     unemitted_stands =
         record {
           scope = scope;

@@ -21,12 +21,13 @@ use Rattle.layout.specs.Records.{four, field_bytes, item_fields, item_record_at,
 use Rattle.layout.specs.Layouts.{ItemAt, emission, item_at, emit, item_row}
 use Rattle.layout.specs.Addresses.{address_at, label_address}
 use Rattle.layout.specs.Rounds.{constant}
+use Rattle.layout.specs.declared.names.Names.{Names}
 use Rattle.layout.specs.declared.addresses.Starts.{Starts}
 use Rattle.layout.specs.Code.Fits.{Each, ItemFits, Consecutive}
-use Rattle.layout.specs.Code.Emits.{Unemitted, emitted_in, EmitLeft}
+use Rattle.layout.specs.Code.Emits.{emitted_in, EmitLeft, EmitReady}
 use Rattle.layout.specs.Code.Steps.{Exists, Agrees}
 use Rattle.layout.specs.Code.Placed.{PlaceCoded}
-use Rattle.layout.specs.Code.Names.{Scope, NamesStand}
+use Rattle.layout.specs.Code.Names.{Scope, StandFor}
 use Rattle.encoder.specs.Code.Words.{WordsPut}
 use Rattle.layout.specs.Code.Expands.{emission_in, source_span, ItemRecordFits}
 use Rattle.layout.specs.declared.state.Section.TheVariants as section
@@ -160,10 +161,10 @@ items_in z = z.state.rest.own.items
 abbrev EmittingIn : Scope → (t i w : List ℕ) → ℕ → ℕ → Type 0
 EmittingIn z t i w k at = Emitting z.base (constant z.known) (label_address z.base z.state) t (items_in z) i w k at
 
-pub record EmitLoop (t l n : List ℕ) (c : ℕ) (e x : List ℕ) (m : ℕ) (starts : Starts) (i₀ : List ℕ) (count : ℕ) (w₀ i w : List ℕ) (k at : ℕ) : Type 0 where
+pub record EmitLoop (names : Names) (starts : Starts) (i₀ : List ℕ) (count : ℕ) (w₀ i w : List ℕ) (k at : ℕ) : Type 0 where
   pub items_sized : length i ≡ length i₀
   pub words_sized : length w ≡ length w₀
-  pub emitting : (u : Unemitted t l n c e x m starts i₀ count w₀) → EmittingIn u.scope t i w k at
+  pub emitting : (u : EmitReady names starts i₀ count w₀) → EmittingIn u.scope names.labels.now.text.now i w k at
 
 -- the table of the items as the lines left them
 unemitted_rows : (n : ℕ) (xs : List ItemLine) → table_of n item_so_far xs ≡ table_of n item_row (map unemitted xs)
@@ -173,8 +174,8 @@ unemitted_rows n xs = ap (λ (bs : List (List ℕ)). padded n (together bs)) (ea
     each [] = refl
     each (y ∷ ys) = ap (λ (bs : List (List ℕ)). field_bytes (item_so_far y) ∷ bs) (each ys)
 
-module _ {t l n : List ℕ} {c : ℕ} {e x : List ℕ} {m : ℕ} {starts : Starts} {i₀ : List ℕ} {count : ℕ} {w₀ : List ℕ} where
-  pub emit-first : EmitLoop t l n c e x m starts i₀ count w₀ i₀ w₀ 0 0
+module _ {names : Names} {starts : Starts} {i₀ : List ℕ} {count : ℕ} {w₀ : List ℕ} where
+  pub emit-first : EmitLoop names starts i₀ count w₀ i₀ w₀ 0 0
   emit-first =
       record {
         items_sized = refl;
@@ -198,12 +199,12 @@ module _ {t l n : List ℕ} {c : ℕ} {e x : List ℕ} {m : ℕ} {starts : Start
             };
       }
 
-  module _ (u : Unemitted t l n c e x m starts i₀ count w₀) where
-    -- the room for all words
-    words_room : ((items_in u.scope).words ≤ word_limit) × ((items_in u.scope).words ≤ length w₀)
-    words_room = let f = u.items.fits in (omega (arith, f.room, u.items.word_limit), omega (arith, f.room, u.lent))
+  module _ (u : EmitReady names starts i₀ count w₀) where
+    module _ {i w : List ℕ} {k at : ℕ} (p : EmitLoop names starts i₀ count w₀ i w k at) where
+      -- the room for all words
+      words_room : ((items_in u.scope).words ≤ word_limit) × ((items_in u.scope).words ≤ length w₀)
+      words_room = let f = u.items.fits in (omega (arith, f.room, u.items.word_limit), omega (arith, f.room, u.lent))
 
-    module _ {i w : List ℕ} {k at : ℕ} (p : EmitLoop t l n c e x m starts i₀ count w₀ i w k at) where
       so_far : at ≤ (items_in u.scope).words
       so_far = let q = p.emitting u in omega (arith, q.written, consecutive_up (length q.ws) q.todo _ q.emit.consecutive)
 
@@ -218,21 +219,21 @@ module _ {t l n : List ℕ} {c : ℕ} {e x : List ℕ} {m : ℕ} {starts : Start
       emit_ends h = by (p.emitting u).todo (p.emitting u).emit
         where
           by : (todo : List ItemLine)
-              → Emit u.scope.base (constant u.scope.known) (label_address u.scope.base u.scope.state) t (items_in u.scope) (p.emitting u).done todo (p.emitting u).ws i w
+              → Emit u.scope.base (constant u.scope.known) (label_address u.scope.base u.scope.state) names.labels.now.text.now (items_in u.scope) (p.emitting u).done todo (p.emitting u).ws i w
               → Agrees (EmitLeft i w) (Ok at) (emitted_in u.scope)
           by [] v = rw (← v.goes) (record { counted = (p.emitting u).written; words = v.words; items = v.rows ∙ rw (append-nil (p.emitting u).done) refl })
           by (y ∷ ys) v = absurd (omega (arith, v.counted, (p.emitting u).place, u.items.counted, h))
 
       module _ (more : k < count) where
-        current : ItemHere u.scope.base (constant u.scope.known) (label_address u.scope.base u.scope.state) t (items_in u.scope) i w k at
-        current = item-here _ _ _ t _ i w k at (p.emitting u) (omega (arith, u.items.counted))
+        current : ItemHere u.scope.base (constant u.scope.known) (label_address u.scope.base u.scope.state) names.labels.now.text.now (items_in u.scope) i w k at
+        current = item-here _ _ _ _ _ i w k at (p.emitting u) (omega (arith, u.items.counted))
 
         -- its own words among them
         behind_it : length current.ws + reserved_words current.one.item current.one.source.bytes ≤ (items_in u.scope).words
         behind_it = let h = current in consecutive_up _ h.rest _ h.emit.consecutive.1
 
         pub emit_lent : k * item_size + item_size ≤ length i
-        emit_lent = let h = current in rw h.place (items_lent _ _ _ t _ h.done h.one h.rest h.ws i w h.emit)
+        emit_lent = let h = current in rw h.place (items_lent _ _ _ _ _ h.done h.one h.rest h.ws i w h.emit)
 
         module _ (r : ItemRecord) (read : r ≡ item_record_at i k) where
           item-is : r ≡ record {
@@ -243,13 +244,13 @@ module _ {t l n : List ℕ} {c : ℕ} {e x : List ℕ} {m : ℕ} {starts : Start
             start = current.one.source.at;
             len = length current.one.source.bytes;
           }
-          item-is = let h = current in read ∙ ap (item_record_at i) h.place ∙ item-read _ _ _ t _ h.done h.one h.rest h.ws i w h.emit
+          item-is = let h = current in read ∙ ap (item_record_at i) h.place ∙ item-read _ _ _ _ _ h.done h.one h.rest h.ws i w h.emit
 
-          source_is : spanned t (source_span r) ≡ current.one.source.bytes
-          source_is = let h = current in ap (λ (q : ItemRecord). spanned t (source_span q)) item-is ∙ item_source _ _ _ t _ h.done h.one h.rest h.ws i w h.emit
+          source_is : spanned names.labels.now.text.now (source_span r) ≡ current.one.source.bytes
+          source_is = let h = current in ap (λ (q : ItemRecord). spanned names.labels.now.text.now (source_span q)) item-is ∙ item_source _ _ _ _ _ h.done h.one h.rest h.ws i w h.emit
 
           -- what emitting it asks
-          pub item_record_fits : (n : ℕ) → n ≡ length w - at → Exists (ItemRecordFits t n r)
+          pub item_record_fits : (n : ℕ) → n ≡ length w - at → Exists (ItemRecordFits names.labels.now.text.now n r)
           item_record_fits n size =
               let h = current in
               record {
@@ -275,8 +276,8 @@ module _ {t l n : List ℕ} {c : ℕ} {e x : List ℕ} {m : ℕ} {starts : Start
           -- what it emits, by what emitting its record promises
           abbrev Emitted_so : List ℕ → List ℕ → Result ℕ ℕ → Type 0
           Emitted_so d d' a =
-              (z : Scope) → NamesStand t l n c e x m z → (o : Option Pseudo) → r.kind ≡ item_kind o
-              → Agrees (WordsPut d d') a (emission_in z o (spanned t (source_span r)))
+              (z : Scope) → StandFor names z → (o : Option Pseudo) → r.kind ≡ item_kind o
+              → Agrees (WordsPut d d') a (emission_in z o (spanned names.labels.now.text.now (source_span r)))
 
           module _ (d d' : List ℕ) where
             told : (a : Result ℕ ℕ) → Emitted_so d d' a → Agrees (WordsPut d d') a (emission_in u.scope current.one.item current.one.source.bytes)
@@ -287,7 +288,7 @@ module _ {t l n : List ℕ} {c : ℕ} {e x : List ℕ} {m : ℕ} {starts : Start
             emit_stops number f i' w' =
                 let h = current in
                 let e = agreed_refused (WordsPut d d') number (emission_in u.scope h.one.item h.one.source.bytes) (told (Err number) f) in
-                rw (emit-refused _ _ _ t _ h.done h.one h.rest h.ws i w h.emit number e) (λ j. record { number = number; line = (item-is j).line })
+                rw (emit-refused _ _ _ _ _ h.done h.one h.rest h.ws i w h.emit number e) (λ j. record { number = number; line = (item-is j).line })
 
             -- the words that it emits
             emitted : (n : ℕ) → Emitted_so d d' (Ok n) → Agreed (WordsPut d d') n (emission_in u.scope current.one.item current.one.source.bytes)
@@ -304,7 +305,7 @@ module _ {t l n : List ℕ} {c : ℕ} {e x : List ℕ} {m : ℕ} {starts : Start
                 → (a : ℕ) → ((q : PlaceCoded starts r.address) → a ≡ address_at q.base q.state q.place)
                 → (i' : List ℕ) → length i' ≡ length i
                 → i' ≡ put (k * item_size) (field_bytes (item_fields (record { address = a; line = r.line; kind = r.kind; first = at; start = r.start; len = r.len }))) i
-                → EmittingIn u.scope t i' (take at w ++ (d' ++ drop (length w - at) (drop at w))) (k + 1) (at + at')
+                → EmittingIn u.scope names.labels.now.text.now i' (take at w ++ (d' ++ drop (length w - at) (drop at w))) (k + 1) (at + at')
             unfolding emit_coded
             emit_goes n f part a coded i' sized is =
                 let h = current in
@@ -321,7 +322,7 @@ module _ {t l n : List ℕ} {c : ℕ} {e x : List ℕ} {m : ℕ} {starts : Start
                   ws = h.ws ++ vs;
                   place = omega (arith, h.place, length-append h.done (item_at u.scope.base h.one (length h.ws) ∷ []));
                   written = omega (arith, h.written, b.counted, length-append h.ws vs);
-                  emit = emit_next _ _ _ t _ h.done h.one h.rest h.ws i w h.emit vs e.is i' _ sized
+                  emit = emit_next _ _ _ _ _ h.done h.one h.rest h.ws i w h.emit vs e.is i' _ sized
                       (ap length w' ∙ length-put at vs w (omega (arith, fits, b.counted)))
                       (row ∙ ap₂ (λ (y z : ℕ). put (y * item_size) (field_bytes (item_row (item_at u.scope.base h.one z))) i) h.place h.written)
                       (w' ∙ ap (λ (y : ℕ). put y vs w) h.written);

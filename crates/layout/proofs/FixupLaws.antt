@@ -9,18 +9,19 @@ use lib.ListN.{length, drop, get_or, length-map, drop_of_length-le, get_or-map}
 use lib.Seq.{drop-cons}
 use Rattle.std.proofs.Common.{Result, Ok, Err}
 use Rattle.layout.specs.declared.limits.Room.{Room}
+use Rattle.layout.specs.declared.labels.Labels.{Labels}
 use Rattle.layout.specs.declared.records.LabelWordRecord.{LabelWordRecord}
 use Rattle.layout.specs.declared.state.DataCount.{DataCount}
 use Rattle.layout.specs.Bytes.{little_endian, put, padded}
 use Rattle.layout.specs.Limits.{text_limit}
 use Rattle.layout.specs.Refusals.{Refusal}
-use Rattle.layout.specs.State.{LabelWord, Stored, State}
+use Rattle.layout.specs.State.{LabelWord, Stored}
 use Rattle.layout.specs.Addresses.{label_address, fill}
 use Rattle.layout.specs.Code.Fits.{LabelWordFits}
 use Rattle.layout.specs.Code.Tables.{label_word_size, label_word_fields, label_word_record_at}
-use Rattle.layout.specs.Code.Stands.{label_word_of, DataStore, label_store, StoredStand}
+use Rattle.layout.specs.Code.Stands.{label_word_of, DataStore, StoredStand}
 use Rattle.layout.specs.Code.Steps.{Agrees}
-use Rattle.layout.specs.Code.Placed.{LabelsPlaced, Unfilled, FillLeft}
+use Rattle.layout.specs.Code.Placed.{WherePlaced, Unfilled, FillLeft, FillReady}
 use Rattle.layout.proofs.Each.{each_at}
 use Rattle.layout.proofs.ByteLaws.{length-little_endian, length-put, put_used}
 use Rattle.layout.proofs.TableLaws.{read-row}
@@ -106,54 +107,54 @@ module _ {look : List ℕ → Option ℕ} {ws : List LabelWord} {bytes₀ d : Li
 
 -- ---- in the code: d was d₀, whatever that and the records of label words and labels stood for
 
-pub record Fixing (t l n : List ℕ) (count : ℕ) (w : List ℕ) (words : ℕ) (d₀ d : List ℕ) (i : ℕ) : Type 0 where
+pub record Fixing (labels : Labels) (w : List ℕ) (words : ℕ) (d₀ d : List ℕ) (i : ℕ) : Type 0 where
   pub sized : length d ≡ length d₀
-  pub filling : (u : Unfilled t l n count w words d₀)
+  pub filling : (u : FillReady labels w words d₀)
       → Filling (label_address u.base u.state) u.state.rest.own.stored.label_words u.state.rest.own.stored.bytes d i
 
-module _ {t l n : List ℕ} {count : ℕ} {w : List ℕ} {words : ℕ} {d₀ : List ℕ} where
-  -- what filling them comes to
-  abbrev filled : Unfilled t l n count w words d₀ → Result (List ℕ) Refusal
-  filled u = fill (label_address u.base u.state) u.state.rest.own.stored.label_words u.state.rest.own.stored.bytes
+-- what filling them comes to
+abbrev filled : {t l n : List ℕ} {count : ℕ} {w : List ℕ} {words : ℕ} {d : List ℕ} → Unfilled t l n count w words d → Result (List ℕ) Refusal
+filled u = fill (label_address u.base u.state) u.state.rest.own.stored.label_words u.state.rest.own.stored.bytes
 
-  pub fixing_first : Fixing t l n count w words d₀ d₀ 0
+module _ {labels : Labels} {w : List ℕ} {words : ℕ} {d₀ : List ℕ} where
+  pub fixing_first : Fixing labels w words d₀ d₀ 0
   fixing_first =
       record {
         sized = refl;
         filling = λ u. record { bytes = u.state.rest.own.stored.bytes; sized = refl; stored = u.stored.bytes; goes = refl };
       }
 
-  module _ {d : List ℕ} {i : ℕ} (m : Fixing t l n count w words d₀ d i) where
-    pub fixing_ends : words ≤ i → (u : Unfilled t l n count w words d₀) → Agrees (FillLeft words d) (Ok words) (filled u)
+  module _ {d : List ℕ} {i : ℕ} (m : Fixing labels w words d₀ d i) where
+    pub fixing_ends : words ≤ i → (u : FillReady labels w words d₀) → Agrees (FillLeft words d) (Ok words) (filled u)
     fixing_ends h u =
         rw (filling_ends (m.filling u) (omega (arith, u.stored.label_words.counted)))
         (record { counted = refl; stored = (m.filling u).stored })
 
     module _ (more : i < words) where
-      pub fixing_within : Unfilled t l n count w words d₀ → i * label_word_size + label_word_size ≤ length w
+      pub fixing_within : FillReady labels w words d₀ → i * label_word_size + label_word_size ≤ length w
       fixing_within u = word-within u.stored u.labels.table.text i more
 
       module _ (r : LabelWordRecord) (e : r ≡ label_word_record_at w i) where
-        word_of : (u : Unfilled t l n count w words d₀)
-            → label_word_of t r ≡ get_or u.state.rest.own.stored.label_words i (label_word_of t no_record)
+        word_of : (u : FillReady labels w words d₀)
+            → label_word_of labels.text.now r ≡ get_or u.state.rest.own.stored.label_words i (label_word_of labels.text.now no_record)
         word_of u = word_back u.stored u.labels.table.text i more r e
 
-        pub fixing_room : Unfilled t l n count w words d₀ → r.at + 4 ≤ length d
+        pub fixing_room : FillReady labels w words d₀ → r.at + 4 ≤ length d
         fixing_room u =
             omega (arith, word_fits u.stored u.labels.table.text i more r e, u.stored.fits.room, u.stored.lent, m.sized)
 
-        module _ (name : List ℕ) (is : name ≡ (label_word_of t r).name) where
-          pub fixing_stops : ((base : ℕ) (σ : State) → LabelsPlaced t base σ count (label_store l n) → None ≡ label_address base σ name)
-              → (u : Unfilled t l n count w words d₀) → Agrees (FillLeft words d) (Err (record { number = 13; line = r.line })) (filled u)
+        module _ (name : List ℕ) (is : name ≡ (label_word_of labels.text.now r).name) where
+          pub fixing_stops : WherePlaced labels (λ base σ. None ≡ label_address base σ name)
+              → (u : FillReady labels w words d₀) → Agrees (FillLeft words d) (Err (record { number = 13; line = r.line })) (filled u)
           fixing_stops unknown u =
-              rw (filling_stops (m.filling u) _ (label_word_of t r) (word_of u) (omega (arith, u.stored.label_words.counted))
+              rw (filling_stops (m.filling u) _ (label_word_of labels.text.now r) (word_of u) (omega (arith, u.stored.label_words.counted))
               (rw is at (unknown u.base u.state u.labels))) refl
 
-          pub fixing_goes : (a : ℕ) → ((base : ℕ) (σ : State) → LabelsPlaced t base σ count (label_store l n) → Some a ≡ label_address base σ name)
-              → (d' : List ℕ) → length d' ≡ length d → d' ≡ put r.at (little_endian 4 a) d → Fixing t l n count w words d₀ d' (i + 1)
+          pub fixing_goes : (a : ℕ) → WherePlaced labels (λ base σ. Some a ≡ label_address base σ name)
+              → (d' : List ℕ) → length d' ≡ length d → d' ≡ put r.at (little_endian 4 a) d → Fixing labels w words d₀ d' (i + 1)
           fixing_goes a known d' size written =
               record {
                 sized = size ∙ m.sized;
-                filling = λ u. filling_goes (m.filling u) _ (label_word_of t r) (word_of u) (omega (arith, u.stored.label_words.counted)) a
+                filling = λ u. filling_goes (m.filling u) _ (label_word_of labels.text.now r) (word_of u) (omega (arith, u.stored.label_words.counted)) a
                     (rw is at (known u.base u.state u.labels)) (word_fits u.stored u.labels.table.text i more r e) d' size written;
               }

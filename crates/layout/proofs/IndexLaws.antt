@@ -1,6 +1,6 @@
 -- The index over names: the hash's loop, a name looked up by its bucket's chain, and the index kept as a name comes in.
-use Prim.Native.Nat.{ℕ, zero, suc, ◌+◌, ◌-◌, ◌*◌, ◌%◌, ◌≤◌, ◌<◌}
-use native.Mathlib.Nat.{zero-add, add-zero}
+use Prim.Native.Nat.{ℕ, zero, suc, ◌+◌, ◌-◌, ◌*◌, ◌/◌, ◌%◌, ◌≤◌, ◌<◌}
+use native.Mathlib.Nat.{zero-add, add-zero, not-suc-le-zero, le_of_suc-le-suc}
 use native.Mathlib.Numerals.{add-one}
 use native.Mathlib.Omega.{arith}
 use mathlib.Core.Path.{◌≡◌, refl, sym, ap, ◌∙◌}
@@ -8,9 +8,12 @@ use mathlib.Core.Bool.{Bool, true, false}
 use mathlib.Core.List.{List, [], ◌∷◌, ◌++◌}
 use Rattle.std.proofs.Common.{Option, None, Some}
 use lib.Dec.{eqb, ltb}
-use lib.ListN.{length, drop, get_or, set, replicate, length-set, length-append, length-replicate, drop_of_length-le, get_or-replicate, get_or-append}
-use lib.Seq.{drop-cons, get_or-set_same, get_or-set_other, get_or-append_seam}
+use lib.ListN.{length, take, drop, get_or, set, replicate, length-set, length-append, length-replicate, get_or-replicate, get_or-append}
+use lib.Seq.{drop-cons, drop-drop, get_or-set_same, get_or-set_other, get_or-append_seam}
 use borrow.Author.Tests.{eq-eqb, ne_eqb, eqb-true, eqb-false, ltb-true, ltb-false}
+use Rattle.std.specs.Simd.{first_chunks}
+use Rattle.std.specs.List.{slice_index, slice_get}
+use Rattle.std.proofs.lemmas.Option.{same_Some}
 use Rattle.numbers.specs.Text.{same}
 use Rattle.numbers.proofs.Bools.{none-some}
 use Rattle.numbers.proofs.Prefixes.{same_equal}
@@ -53,18 +56,38 @@ module _ (s : List ℕ) (h i : ℕ) (m : Mixing s h i) where
       drop-cons s i 0 (omega arith) ∙ ap (λ (r : List ℕ). get_or s i 0 ∷ r) (rw (add-one i, after) (drop-cons s (suc i) 0 (omega arith))) in
       record { within = omega arith; small = omega arith; goes = sym (ap (mixed h) two) ∙ m.goes }
 
--- what is left at the end: one byte, or none
-module _ (s : List ℕ) (h i : ℕ) where
-  pub mix_one : i < length s → length s ≤ i + 1 → (h * 2654435761 + get_or s i 0) % 4294967296 ≡ mixed h (drop i s)
-  unfolding mixed
-  mix_one l e =
-      let one : drop i s ≡ get_or s i 0 ∷ [] =
-      drop-cons s i 0 l ∙ ap (λ (r : List ℕ). get_or s i 0 ∷ r) (drop_of_length-le s {i = suc i} (omega arith)) in
-      sym (ap (mixed h) one)
+-- the pairs of bytes
+pair_at : (k j : ℕ) (s : List ℕ) → j < k → get_or (first_chunks 2 k s) j [] ≡ take 2 (drop (j * 2) s)
+pair_at zero j s h = absurd (not-suc-le-zero h)
+pair_at (suc k) zero s h = refl
+pair_at (suc k) (suc j) s h =
+    let twice : 2 + j * 2 ≡ suc j * 2 = omega arith in
+    pair_at k j (drop 2 s) (le_of_suc-le-suc h) ∙ ap (take 2) (drop-drop (j * 2) 2 s ∙ ap (λ (n : ℕ). drop n s) twice)
 
-  pub mix_none : length s ≤ i → h ≡ mixed h (drop i s)
+two_at : (s : List ℕ) (i : ℕ) → i + 1 < length s → take 2 (drop i s) ≡ get_or s i 0 ∷ get_or s (i + 1) 0 ∷ []
+two_at s i h = rw (add-one i, drop-cons s i 0 (omega arith), drop-cons s (suc i) 0 (omega arith)) refl
+
+pub mix_pair : (s : List ℕ) (h j : ℕ) → Mixing s h (j * 2) → j < length s / 2 → (pairs : List (List ℕ)) → pairs ≡ first_chunks 2 (length s / 2) s
+    → (v : ℕ) → v ≡ slice_index (get_or pairs j []) 0 + slice_index (get_or pairs j []) 1 * 256 → Mixing s ((h * 2654435761 + v) % 4294967296) ((j + 1) * 2)
+mix_pair s h j m l pairs e v is =
+    let i = j * 2 in
+    let after : i + 2 ≡ (j + 1) * 2 = omega arith in
+    let inside : i + 1 < length s = omega arith in
+    let value : v ≡ get_or s i 0 + 256 * get_or s (i + 1) 0 = omega (arith, (rw (e, pair_at (length s / 2) j s l, two_at s i inside) at is)) in
+    rw (value, ← after) (mix_two s h i m inside)
+
+-- what is left at the end: one byte, or none
+module _ (s : List ℕ) (h i : ℕ) (m : Mixing s h i) where
+  pub mix_one : (last : List ℕ) → last ≡ drop i s → length last ≤ 1 → (b : ℕ) → Some b ≡ slice_get last 0 → (h * 2654435761 + b) % 4294967296 ≡ mixed 0 s
   unfolding mixed
-  mix_none l = sym (ap (mixed h) (drop_of_length-le s {i = i} l))
+  mix_one [] e l b is = cc
+  mix_one (x ∷ []) e l b is = ap (λ (c : ℕ). (h * 2654435761 + c) % 4294967296) (same_Some _ _ is) ∙ ap (mixed h) e ∙ m.goes
+  mix_one (x ∷ y ∷ ys) e l b is = absurd (omega arith)
+
+  pub mix_none : (last : List ℕ) → last ≡ drop i s → None ≡ slice_get last 0 → h ≡ mixed 0 s
+  unfolding mixed
+  mix_none [] e is = ap (mixed h) e ∙ m.goes
+  mix_none (x ∷ xs) e is = cc
 
 -- ---- a search in order
 

@@ -6,7 +6,7 @@ use Prim.Native.Nat.{ℕ, ◌+◌, ◌*◌, ◌≤◌, ◌<◌}
 use native.Mathlib.Omega.{arith}
 use mathlib.Core.Path.{◌≡◌, refl, sym, ap, ◌∙◌}
 use mathlib.Core.List.{List, [], ◌∷◌}
-use Rattle.std.proofs.Common.{Option}
+use Rattle.std.proofs.Common.{Option, None, Some}
 use lib.ListN.{length, length-append}
 use borrow.Author.Tests.{le-ltb, lt-ltb, le-leb, lt-leb}
 use Rattle.numbers.specs.declared.text.Span.{Span}
@@ -16,15 +16,13 @@ use Rattle.layout.specs.declared.limits.Room.{Room}
 use Rattle.layout.specs.declared.state.ItemCount.{ItemCount}
 use Rattle.layout.specs.declared.records.ItemRecord.{ItemRecord}
 use Rattle.layout.specs.declared.pseudo.Pseudo.{Pseudo}
-use Rattle.layout.specs.declared.pseudo.LineKind.{LineKind}
-use Rattle.layout.specs.declared.pseudo.LineKind.TheVariants as kind
 use Rattle.layout.specs.Bytes.{little_endian, put}
 use Rattle.layout.specs.Limits.{item_size}
 use Rattle.layout.specs.Records.{field_bytes, item_fields}
 use Rattle.layout.specs.Pseudos.{Item, ordinary, pseudo, other, item_of, reserved_words, item_kind}
 use Rattle.layout.specs.State.{ItemLine}
 use Rattle.layout.specs.Stage.{add_item, text_line}
-use Rattle.layout.specs.Code.Kinds.{text_line_code, kind_item, kind_source}
+use Rattle.layout.specs.Code.Kinds.{text_line_code}
 use Rattle.layout.specs.Code.Spans.{SpanWithin, piece_at}
 use Rattle.layout.specs.Code.Steps.{Steps}
 use Rattle.layout.specs.Code.Stands.{ItemsStand, item_so_far}
@@ -80,35 +78,27 @@ module _ (t : List ℕ) (k : Room) (c : ItemCount) (b b' : List ℕ) (line : ℕ
 
 -- ---- a text line, by the kind that the code finds
 
-pub kind_few : (t : List ℕ) (x : LineKind) (m : ℕ) → m ≡ reserved_words (kind_item x) (spanned t (kind_source x)) → m ≤ 11
-kind_few t x m e = rw e (words_few (kind_item x) (spanned t (kind_source x))).1
+pub kind_few : (s : List ℕ) (o : Option Pseudo) (m : ℕ) → m ≡ reserved_words o s → m ≤ 11
+kind_few s o m e = rw e (words_few o s).1
 
-module _ (t : List ℕ) (q : Span) (found : Result LineKind ℕ) (e : found ≡ text_line_code (item_of (spanned t q)) q) where
-  pub kind_within : (x : LineKind) → found ≡ Ok x → SpanWithin t q → SpanWithin t (kind_source x)
-  kind_within x f h = by (item_of (spanned t q)) (sym e ∙ f)
-    where
-      by : (j : Item) → text_line_code j q ≡ Ok x → SpanWithin t (kind_source x)
-      by ordinary g = let z : kind.Instr q ≡ x = cc in rw (← z) h
-      by (pseudo p) g = let z : kind.Pseudo p q ≡ x = cc in rw (← z) h
-      by other g = let z : ◌≡◌ {A = ℕ} 0 1 = cc in absurd (omega arith)
-
+module _ (t : List ℕ) (q : Span) (found : Result (Option Pseudo) ℕ) (e : found ≡ text_line_code (item_of (spanned t q))) where
   module _ (k : Room) (c : ItemCount) (b b' : List ℕ) (n : ℕ) where
-    pub text-item : (r : Result ItemCount code.Refusal) (x : LineKind) → found ≡ Ok x
-        → Steps (ItemsStand t k) c b (numbered r) b' (add_item k n (kind_item x) (piece_at t (kind_source x)))
+    pub text-item : (r : Result ItemCount code.Refusal) (o : Option Pseudo) → found ≡ Ok o
+        → Steps (ItemsStand t k) c b (numbered r) b' (add_item k n o (piece_at t q))
         → Steps (ItemsStand t k) c b (numbered r) b' (text_line k n (piece_at t q) (item_of (spanned t q)))
     unfolding text_line
-    text-item r x f h = by (item_of (spanned t q)) (sym e ∙ f)
+    text-item r o f h = by (item_of (spanned t q)) (sym e ∙ f)
       where
-        by : (j : Item) → text_line_code j q ≡ Ok x → Steps (ItemsStand t k) c b (numbered r) b' (text_line k n (piece_at t q) j)
-        by ordinary g σ s = let z : x ≡ kind.Instr q = cc in rw z at (h σ s)
-        by (pseudo p) g σ s = let z : x ≡ kind.Pseudo p q = cc in rw z at (h σ s)
+        by : (j : Item) → text_line_code j ≡ Ok o → Steps (ItemsStand t k) c b (numbered r) b' (text_line k n (piece_at t q) j)
+        by ordinary g σ s = let z : o ≡ None = cc in rw z at (h σ s)
+        by (pseudo p) g σ s = let z : o ≡ Some p = cc in rw z at (h σ s)
         by other g σ s = let z : ◌≡◌ {A = ℕ} 0 1 = cc in absurd (omega arith)
 
     pub text-other : (m : ℕ) → found ≡ Err m → Steps (ItemsStand t k) c b (Err m) b' (text_line k n (piece_at t q) (item_of (spanned t q)))
     unfolding text_line
     text-other m f = by (item_of (spanned t q)) (sym e ∙ f)
       where
-        by : (j : Item) → text_line_code j q ≡ Err m → Steps (ItemsStand t k) c b (Err m) b' (text_line k n (piece_at t q) j)
+        by : (j : Item) → text_line_code j ≡ Err m → Steps (ItemsStand t k) c b (Err m) b' (text_line k n (piece_at t q) j)
         by ordinary g σ s = let z : ◌≡◌ {A = ℕ} 0 1 = cc in absurd (omega arith)
         by (pseudo p) g σ s = let z : ◌≡◌ {A = ℕ} 0 1 = cc in absurd (omega arith)
         by other g σ s = let z : m ≡ 21 = cc in z

@@ -70,3 +70,4 @@ pub mod DemandPremises
 pub mod DemandRefuted
 pub mod CallRefuted
 pub mod Walks
+pub mod WordLaws

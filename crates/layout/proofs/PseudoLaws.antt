@@ -22,7 +22,6 @@ use Rattle.numbers.proofs.Rows.{made_name, made_room, made_read, first_meets, ro
 use Rattle.numbers.proofs.Parts.{items_spaced, item-step, item_end, items_all}
 use Rattle.layout.specs.declared.pseudo.Pseudo.{Pseudo}
 use Rattle.layout.specs.declared.pseudo.Pseudo.TheVariants.{Li, La, Push, Pop, Print, PrintStr, Read, ReadByte, Random}
-use Rattle.layout.specs.declared.pseudo.LineKind.TheVariants as kind
 use Rattle.layout.specs.Pseudos.{Item, ordinary, pseudo, other, Spelling, spellings, item_in}
 use Rattle.layout.specs.Pseudos.{pseudo_operands, is_single, li_words, reserved_words, pseudo_kind, item_kind}
 use Rattle.layout.specs.Code.Kinds.{item_number, spelling_row, begins_as_pseudo, text_line_code}
@@ -189,8 +188,8 @@ unfolding spellings all
 spellings-named = refl
 
 -- the row that the code finds: none, one that may not end the line, or one whose columns say what it is
-module _ (q : Span) (xs : List Spelling) (t s : List ℕ) (ok : Sound xs) (r : Option ℕ) (is : found_row t r ≡ first (λ x. same (row_name x) (before 32 s)) (map spelling_row xs)) where
-  pub line_plain : r ≡ None → Ok (kind.Instr q) ≡ text_line_code (item_in xs s) q
+module _ (xs : List Spelling) (t s : List ℕ) (ok : Sound xs) (r : Option ℕ) (is : found_row t r ≡ first (λ x. same (row_name x) (before 32 s)) (map spelling_row xs)) where
+  pub line_plain : r ≡ None → Ok None ≡ text_line_code (item_in xs s)
   line_plain e =
       rw (
         item-first xs s ok.0 ok.1,
@@ -222,7 +221,7 @@ module _ (q : Span) (xs : List Spelling) (t s : List ℕ) (ok : Sound xs) (r : O
         let bare : eqb (get_or t (at + 15) 0) 0 ≡ not spelling.bare = ap (λ (k : ℕ). eqb k 0) (column 1 (omega arith)) ∙ flag_back spelling.bare in
         item-first xs s ok.0 ok.1 ∙ ap (λ (o : Option Spelling). item_found o (ends_line s)) there.1 ∙ rw (rw bare at ends) refl
 
-    pub line_ended : ends_line s && eqb (get_or t (at + 15) 0) 0 ≡ true → Ok (kind.Instr q) ≡ text_line_code (item_in xs s) q
+    pub line_ended : ends_line s && eqb (get_or t (at + 15) 0) 0 ≡ true → Ok None ≡ text_line_code (item_in xs s)
     line_ended ends = rw (rowed true ends) refl
 
     number_is : get_or t (at + 14) 0 ≡ item_number spelling.item
@@ -232,24 +231,25 @@ module _ (q : Span) (xs : List Spelling) (t s : List ℕ) (ok : Sound xs) (r : O
     number_few = rw number_is (number_small spelling.item)
 
     module _ (ends : ends_line s && eqb (get_or t (at + 15) 0) 0 ≡ false) where
-      pub line_other : Named xs → get_or t (at + 14) 0 ≡ 0 → Err 21 ≡ text_line_code (item_in xs s) q
-      line_other named z =
-          rw (rowed false ends)
-          (by spelling.item (first_meets (λ x. is_named x.item) (names (before 32 s)) xs named spelling there.1).0 (sym number_is ∙ z))
-        where
-          by : (j : Item) → is_named j ≡ true → item_number j ≡ 0 → Err 21 ≡ text_line_code j q
-          by ordinary n z = absurd (false≢true n)
-          by (pseudo p) n z = let o = item_told (Some p) None z in cc
-          by other n z = refl
+      module _ (o : Option Pseudo) (told : item_kind o ≡ get_or t (at + 14) 0) where
+        pub line_other : Named xs → o ≡ None → Err 21 ≡ text_line_code (item_in xs s)
+        line_other named z =
+            rw (rowed false ends)
+            (by spelling.item (first_meets (λ x. is_named x.item) (names (before 32 s)) xs named spelling there.1).0
+            (sym number_is ∙ sym told ∙ ap item_kind z))
+          where
+            by : (j : Item) → is_named j ≡ true → item_number j ≡ 0 → Err 21 ≡ text_line_code j
+            by ordinary n z = absurd (false≢true n)
+            by (pseudo p) n z = let w = item_told (Some p) None z in cc
+            by other n z = refl
 
-      pub line_pseudo : (get_or t (at + 14) 0 ≡ 0 → ⊥) → (p : Pseudo) → pseudo_kind p ≡ get_or t (at + 14) 0
-          → Ok (kind.Pseudo p q) ≡ text_line_code (item_in xs s) q
-      line_pseudo n p z = rw (rowed false ends) (by spelling.item (λ o. n (number_is ∙ o)) (z ∙ number_is))
-        where
-          by : (j : Item) → (item_number j ≡ 0 → ⊥) → pseudo_kind p ≡ item_number j → Ok (kind.Pseudo p q) ≡ text_line_code j q
-          by ordinary m z = absurd (m refl)
-          by (pseudo r) m z = let o = item_told (Some p) (Some r) z in cc
-          by other m z = absurd (m refl)
+        pub line_pseudo : (p : Pseudo) → o ≡ Some p → Ok (Some p) ≡ text_line_code (item_in xs s)
+        line_pseudo p z = rw (rowed false ends) (by spelling.item (sym (ap item_kind z) ∙ told ∙ number_is))
+          where
+            by : (j : Item) → pseudo_kind p ≡ item_number j → Ok (Some p) ≡ text_line_code j
+            by ordinary m = let w = item_told (Some p) None m in cc
+            by (pseudo r) m = let w = item_told (Some p) (Some r) m in cc
+            by other m = let w = item_told (Some p) None m in cc
 
 -- ---- the first letter
 

@@ -678,7 +678,7 @@ module _ (f : Frame) {l n : List ℕ} {c : ℕ} {starts : Starts} {exprs : List 
   abbrev pub scope_here : Scope
   scope_here = record { base = f.base; state = f.state; known = m.all }
 
-  stand_here : TurnStand f.text l n c starts e f.index f.count exprs scope_here
+  stand_here : TurnStand f.text l n c starts f.text e f.index f.count exprs scope_here
   stand_here =
       record {
         names = record { labels = s.labels; equates = m.walk.table };
@@ -688,7 +688,7 @@ module _ (f : Frame) {l n : List ℕ} {c : ℕ} {starts : Starts} {exprs : List 
       }
 
   pub again_here : (p : Partial) → p ≡ partial_at w k → k < f.count → m.one.found ≡ None
-      → TurnAgain f.text l n c starts e f.index f.count exprs round k p scope_here
+      → TurnAgain f.text l n c starts f.text e f.index f.count exprs round k p scope_here
   again_here p q h pending =
       record {
         stand = stand_here;

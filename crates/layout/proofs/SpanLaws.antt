@@ -3,14 +3,14 @@ use Prim.Native.Nat.{ℕ, zero, suc, ◌+◌, ◌-◌, min, ◌≤◌, ◌<◌}
 use native.Mathlib.Nat.{not-suc-le-zero, le_of_suc-le-suc}
 use mathlib.Core.Path.{◌≡◌, refl, sym, ap, ◌∙◌}
 use mathlib.Core.List.{List, [], ◌∷◌}
-use mathlib.Core.Bool.{Bool, true, false, cond, ◌||◌}
+use mathlib.Core.Bool.{Bool, true, false, cond, not, ◌||◌}
 use native.Mathlib.Omega.{arith}
 use native.Mathlib.Numerals.{add-one}
 use lib.Dec.{eqb}
 use lib.ListN.{length, take, drop, get_or, drop_of_length-le, length-take, length-drop}
 use lib.Seq.{drop-cons, drop-drop, take-take, take-length, length-take-le}
 use Rattle.numbers.specs.declared.text.Span.{Span}
-use Rattle.numbers.specs.Text.{leading_spaces, trimmed, index_of, uncommented}
+use Rattle.numbers.specs.Text.{leading, leading_spaces, trimmed, index_of, uncommented}
 use Rattle.numbers.specs.Code.Spans.{trim_span, spanned}
 use Rattle.numbers.proofs.Trims.{tail, span_front, span_later, trim_span-text, trim_span-within, statement_text, statement_within}
 use Rattle.layout.specs.Pieces.{piece, trim_piece, from_byte, statement_of}
@@ -158,3 +158,13 @@ module _ (t : List ℕ) (q : Span) (h : SpanWithin t q) where
   pub within_inside : Inside t (piece_at t q)
   unfolding spanned
   within_inside = record { within = rw within_size h; is = rw within_size refl }
+
+-- those that meet no test are those with which a text begins
+pub count_leading : (test : ℕ → Bool) (s : List ℕ) → count_before test s ≡ leading (λ x. not (test x)) s
+unfolding count_before leading
+count_leading test [] = refl
+count_leading test (x ∷ xs) = go (test x) (count_leading test xs)
+  where
+    go : (t : Bool) → count_before test xs ≡ leading (λ y. not (test y)) xs → cond t 0 (suc (count_before test xs)) ≡ cond (not t) (suc (leading (λ y. not (test y)) xs)) 0
+    go true h = refl
+    go false h = ap suc h

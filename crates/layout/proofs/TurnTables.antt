@@ -12,6 +12,7 @@ use lib.IntN.{ℤ, pos}
 use lib.ListN.{length}
 use Rattle.numbers.specs.Code.Spans.{spanned}
 use Rattle.layout.specs.declared.addresses.Starts.{Starts}
+use Rattle.layout.specs.declared.expr.Expression.{Expression}
 use Rattle.layout.specs.declared.expr.Partial.{Partial}
 use Rattle.layout.specs.declared.expr.Evaluated as answer
 use Rattle.layout.specs.declared.expr.Evaluated.TheVariants.{Value, Waits}
@@ -29,8 +30,8 @@ use Rattle.layout.specs.Code.Fits.{EquateFits}
 use Rattle.layout.specs.Code.Tables.{expr_size, flag_of, expr_record_at, equate_name_at}
 use Rattle.layout.specs.Code.Placed.{PlaceCoded}
 use Rattle.layout.specs.Code.Names.{Scope, look_in}
-use Rattle.layout.specs.Code.Terms.{sum_on, evaluation_of, Evaluates}
-use Rattle.layout.specs.Code.Resolves.{known_expr, TurnStand, no_known, equate_in, Blocked, BlockedBy, TurnGives}
+use Rattle.layout.specs.Code.Terms.{sum_on, evaluation_of, Evaluates, EvaluatesAs}
+use Rattle.layout.specs.Code.Resolves.{known_expr, TurnStand, no_known, equate_in, Blocked, BlockedBy, ExpressionOf, TurnGives}
 use Rattle.layout.proofs.TableLaws.{read-row, table_lent}
 use Rattle.layout.proofs.KnownLaws.{fits_at, name_back}
 use Rattle.layout.proofs.TermLaws.{extends_self}
@@ -61,18 +62,18 @@ abbrev EvaluatesOne : Scope → Equate → (Bool → List ℕ → ℤ → (List 
 EvaluatesOne s e f r =
     Evaluates (look_in s) e.expr.one_space e.expr.source.bytes (own_address_of s.base s.state e) (f e.expr.one_space e.expr.source.bytes (own_address_of s.base s.state e)) r
 
-module _ {t l n : List ℕ} {c : ℕ} {starts : Starts} {e x : List ℕ} {m : ℕ} {exprs : List ℕ} {s : Scope}
-    (d : TurnStand t l n c starts e x m exprs s) (k : ℕ) (below : k < m) where
+module _ {t l n : List ℕ} {c : ℕ} {starts : Starts} {u e x : List ℕ} {m : ℕ} {exprs : List ℕ} {s : Scope}
+    (d : TurnStand t l n c starts u e x m exprs s) (k : ℕ) (below : k < m) where
   within : k < length s.known
   within = omega (arith, d.names.equates.rows.counted)
 
   abbrev one : Equate
   one = equate_in s k
 
-  fits : EquateFits t one
+  fits : EquateFits u one
   fits = (fits_at d.names.equates.rows k within).equate
 
-  short : length t ≤ 65536
+  short : length u ≤ 65536
   short = d.names.equates.rows.text
 
   pub expr_lent : k * expr_size + expr_size ≤ length exprs
@@ -85,7 +86,7 @@ module _ {t l n : List ℕ} {c : ℕ} {starts : Starts} {e x : List ℕ} {m : �
       (omega (arith, fits.source.within, short)) (omega (arith, fits.source.within, short)) (omega (arith, flag_small one.expr.one_space))
       (code_small one.place.section one.place.offset fits.place)
 
-  pub expr_bytes : spanned t (record { start = (expr_record_at exprs k).start; len = (expr_record_at exprs k).len }) ≡ one.expr.source.bytes
+  pub expr_bytes : spanned u (record { start = (expr_record_at exprs k).start; len = (expr_record_at exprs k).len }) ≡ one.expr.source.bytes
   unfolding spanned
   expr_bytes = rw (row.0, row.1) fits.source.is
 
@@ -103,7 +104,7 @@ module _ {t l n : List ℕ} {c : ℕ} {starts : Starts} {e x : List ℕ} {m : �
   expr_address code q here a = a (expr_coded code q)
 
   -- what the tests by the name that was read say of the equate's own
-  module _ (name : List ℕ) (q : name ≡ equate_name_at t e k) (r b : Bool) where
+  module _ (name : List ℕ) (q : name ≡ equate_name_at u e k) (r b : Bool) where
     own_name : name ≡ one.name.bytes
     own_name = q ∙ name_back d.names.equates.rows k within
 
@@ -113,16 +114,13 @@ module _ {t l n : List ℕ} {c : ℕ} {starts : Starts} {e x : List ℕ} {m : �
     pub value_told : r ≡ is_some (constant s.known name) → r ≡ b → is_some (constant s.known one.name.bytes) ≡ b
     value_told h g = ap (λ (x : List ℕ). is_some (constant s.known x)) (sym own_name) ∙ sym h ∙ g
 
-  -- and what the evaluation of the expression that was read says of its own
-  module _ (bytes : List ℕ) (one_space : Bool) (p : bytes ≡ spanned t (record { start = (expr_record_at exprs k).start; len = (expr_record_at exprs k).len }))
-      (q : one_space ≡ (expr_record_at exprs k).one_space) where
-    pub evaluated_told : (f : Bool → List ℕ → ℤ → (List ℕ → Option ℤ) → Evaluated) (here : ℕ) → here ≡ address_at s.base s.state one.place → (r : Result answer.Evaluated ℕ)
-        → Evaluates (look_in s) one_space bytes (pos here) (f one_space bytes (pos here)) r → EvaluatesOne s one f r
-    evaluated_told f here h r v =
-        subst (λ (x : List ℕ). Evaluates (look_in s) one.expr.one_space x (own_address_of s.base s.state one) (f one.expr.one_space x (own_address_of s.base s.state one)) r)
-        (p ∙ expr_bytes)
-        (subst (λ (o : Bool). Evaluates (look_in s) o bytes (own_address_of s.base s.state one) (f o bytes (own_address_of s.base s.state one)) r) (q ∙ expr_flag)
-        (subst (λ (a : ℕ). Evaluates (look_in s) one_space bytes (pos a) (f one_space bytes (pos a)) r) h v))
+-- what the evaluation of the expression that was read says of the equate's own
+pub evaluated_told : {s : Scope} {e : Equate} {x : Expression} → ExpressionOf s e x → (f : Bool → List ℕ → ℤ → (List ℕ → Option ℤ) → Evaluated) (r : Result answer.Evaluated ℕ)
+    → EvaluatesAs (look_in s) x (f x.one_space x.source.now (pos x.here)) r → EvaluatesOne s e f r
+evaluated_told {s = s} {e = e} {x = x} q f r v =
+    subst (λ (y : List ℕ). Evaluates (look_in s) e.expr.one_space y (own_address_of s.base s.state e) (f e.expr.one_space y (own_address_of s.base s.state e)) r) q.source
+    (subst (λ (o : Bool). Evaluates (look_in s) o x.source.now (own_address_of s.base s.state e) (f o x.source.now (own_address_of s.base s.state e)) r) q.one_space
+    (subst (λ (a : ℕ). Evaluates (look_in s) x.one_space x.source.now (pos a) (f x.one_space x.source.now (pos a)) r) q.here v))
 
 -- ---- the turn
 

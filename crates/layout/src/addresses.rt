@@ -5,11 +5,11 @@ ghost use Rattle.layout.specs.Limits.{base_limit, data_limit};
 ghost use Rattle.layout.specs.State.{State};
 ghost use Rattle.layout.specs.Stage.{is_label};
 ghost use Rattle.layout.specs.Addresses.{address_at, label_address};
-ghost use Rattle.layout.specs.Code.Tables.{LabelsIndexed};
+ghost use Rattle.layout.specs.Code.Tables.{LabelsSearchable};
 ghost use Rattle.layout.specs.Code.Placed.{StartsAt, PlaceCoded, Unplaced, Places, WherePlaced};
 
-use crate::labels::{find_label, find_spaced};
-use crate::records::{LabelRecord, get_label, put_label};
+use crate::labels::Labels;
+use crate::records::{LabelRecord, Record};
 
 // Where the sections start.
 #[derive(Clone, Copy)]
@@ -52,52 +52,41 @@ pub fn place_labels(labels: &mut [u8], count: usize, starts: Starts)
     ensures { Places labels count starts }
 {
     for k in 0..count {
-        let label = get_label(labels, k);
+        let label = LabelRecord::get(labels, k);
         let placed = LabelRecord {
             start: label.start,
             len: label.len,
             address: starts.address(label.address),
             line: label.line,
         };
-        put_label(labels, k, placed);
+        placed.put(labels, k);
     }
 }
 
-pub fn label_address(
-    text: &[u8],
-    labels: &[u8],
-    index: &[u16],
-    count: usize,
-    name: &[u8],
-) -> Option<u32>
-    requires { LabelsIndexed text.now labels.now index.now count }
-    ensures { WherePlaced text.now labels.now index.now count
-        (λ base σ. result ≡ label_address base σ name.now) }
-{
-    let k = find_label(text, labels, index, count, name)?;
-    Some(get_label(labels, k).address)
-}
+impl Labels<'_> {
+    // The address of the label that has the name.
+    pub fn address(self, name: &[u8]) -> Option<u32>
+        requires { LabelsSearchable self }
+        ensures { WherePlaced self.entry (λ base σ. result ≡ label_address base σ name.now) }
+    {
+        let k = self.find(name)?;
+        Some(LabelRecord::get(self.records, k).address)
+    }
 
-// Has a label the name?
-pub fn is_label(text: &[u8], labels: &[u8], index: &[u16], count: usize, name: &[u8]) -> bool
-    requires { LabelsIndexed text.now labels.now index.now count }
-    ensures { WherePlaced text.now labels.now index.now count (λ base σ. result ≡ is_label name.now σ.labels) }
-{
-    find_label(text, labels, index, count, name).is_some()
-}
+    // Has a label the name?
+    pub fn contains(self, name: &[u8]) -> bool
+        requires { LabelsSearchable self }
+        ensures { WherePlaced self.entry (λ base σ. result ≡ is_label name.now σ.labels) }
+    {
+        self.find(name).is_some()
+    }
 
-// What `label_address` answers of an operand's name, its white-space runs made one space. The contract alone names the index.
-pub fn spaced_address(
-    text: &[u8],
-    labels: &[u8],
-    index: &[u16],
-    count: usize,
-    operand: &[u8],
-) -> Option<u32>
-    requires { LabelsIndexed text.now labels.now index.now count }
-    ensures { WherePlaced text.now labels.now index.now count
-        (λ base σ. result ≡ label_address base σ (one_spaced operand.now)) }
-{
-    let k = find_spaced(text, labels, count, operand)?;
-    Some(get_label(labels, k).address)
+    // What `address` answers of an operand's name, its white-space runs made one space. The contract alone names the index.
+    pub fn spaced_address(self, operand: &[u8]) -> Option<u32>
+        requires { LabelsSearchable self }
+        ensures { WherePlaced self.entry (λ base σ. result ≡ label_address base σ (one_spaced operand.now)) }
+    {
+        let k = self.find_spaced(operand)?;
+        Some(LabelRecord::get(self.records, k).address)
+    }
 }

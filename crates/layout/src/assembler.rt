@@ -10,7 +10,10 @@ ghost use Rattle.layout.specs.Code.Calls.{LinesReady, LinesGive, ResolvedReady, 
 
 use crate::addresses::Starts;
 use crate::emit::emit_items;
+use crate::equates::Equates;
+use crate::labels::Labels;
 use crate::limits::{BASE_LIMIT, Room, TEXT_LIMIT};
+use crate::names::Names;
 use crate::order::order_labels;
 use crate::refusal::{Refusal, RefusedAt};
 use crate::stage::line_stage;
@@ -91,19 +94,23 @@ fn emit_and_order(
     let stored = own.stored;
     let counted = own.items;
     let starts = Starts::of(base, stored.bytes);
-    let count = emit_items(
+    let placed = Labels {
         text,
-        labels,
-        label_index,
-        st.labels,
-        equates,
-        equate_index,
-        rest.equates,
-        starts,
-        items,
-        counted.items,
-        words,
-    )?;
+        records: labels,
+        index: label_index,
+        count: st.labels,
+    };
+    let found = Equates {
+        text,
+        records: equates,
+        index: equate_index,
+        count: rest.equates,
+    };
+    let names = Names {
+        labels: &placed,
+        equates: &found,
+    };
+    let count = emit_items(names, starts, items, counted.items, words)?;
     // the label words are filled: their table has room for every label's record
     order_labels(text, labels, label_words, st.labels);
     Ok(Counts {

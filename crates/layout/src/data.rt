@@ -23,7 +23,7 @@ use crate::directives::{Reservation, Source, Store, Width, place_after, reservat
 use crate::limits::{LABEL_WORD_LIMIT, Room};
 use crate::little_endian::put_number;
 use crate::pieces::part_in;
-use crate::records::{LabelWordRecord, put_label_word};
+use crate::records::{LabelWordRecord, Record};
 use crate::refusal::Refusal;
 use crate::state::DataCount;
 use crate::writers::{put_string, put_zeros};
@@ -96,7 +96,7 @@ impl Width {
 fn is_label_start(b: u8) -> bool
     ensures { result ≡ is_label_start b }
 {
-    ((b'a' <= b) & (b <= b'z')) | ((b'A' <= b) & (b <= b'Z')) | (b == b'_') | (b == b'.')
+    b.is_ascii_alphabetic() | (b == b'_') | (b == b'.')
 }
 
 fn is_label_byte(b: u8) -> bool
@@ -109,13 +109,10 @@ fn is_label_byte(b: u8) -> bool
 fn is_label_name(s: &[u8]) -> bool
     ensures { result ≡ is_label_name s.now }
 {
-    if s.len() == 0 {
+    let Some((&first, rest)) = s.split_first() else {
         return false;
-    }
-    if !is_label_start(s[0]) {
-        return false;
-    }
-    s[1..].iter().all(|&b| is_label_byte(b))
+    };
+    is_label_start(first) & rest.iter().all(|&b| is_label_byte(b))
 }
 
 // An operand that is no number: a label's name for `.word`, else refused.
@@ -248,7 +245,7 @@ fn add_label_word(
         len: name.len as u32,
         line,
     };
-    put_label_word(label_words, count, word);
+    word.put(label_words, count);
     Ok(count + 1)
 }
 

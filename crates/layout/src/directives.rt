@@ -61,18 +61,16 @@ pub struct Spelling {
 
 const COUNT: usize = 23;
 
-// The columns: how long a row's name is, what it is (`directive_numbered`), and whether the data section has it.
+// The columns: how long a row's name is, what it is (`Directive::numbered`), and whether the data section has it.
 const LENGTH: usize = 13;
 
 const KIND: usize = 14;
 
 const IN_DATA: usize = 15;
 
-pub type Names = [u8; SLOTS + 1 + COUNT * ROW];
-
-// A constant is built anew where it is used: the table is made once a call, and lent down. First, at which row each
-// slot's rows begin and where the last one's end; then the rows, slot by slot (`tools/table` prints it).
-pub const NAMES: Names = *b"\
+// First, at which row each slot's rows begin and where the last one's end; then the rows, slot by slot (`tools/table`
+// prints it).
+const ROWS: [u8; SLOTS + 1 + COUNT * ROW] = *b"\
     \x00\x00\x00\x00\x01\x02\x02\x02\x02\x02\x03\x03\x04\x04\x05\x05\
     \x06\x06\x06\x06\x06\x06\x08\x08\x08\x08\x08\x08\x08\x08\x08\x08\
     \x09\x09\x0a\x0b\x0b\x0b\x0c\x0c\x0c\x0c\x0d\x0e\x10\x10\x10\x11\
@@ -102,40 +100,55 @@ pub const NAMES: Names = *b"\
     .attribute   \x0a\x01\x01\
     .option      \x07\x01\x01";
 
-// What a number in a row says.
-fn directive_numbered(kind: u8) -> Directive
-    requires { kind ≤ 11 }
-    ensures { directive_number result ≡ kind }
-{
-    match kind {
-        0 => Directive::Symbol,
-        1 => Directive::Ignored,
-        2 => Directive::Equate,
-        3 => Directive::Reserves(Reserve::Align),
-        4 => Directive::Reserves(Reserve::Space),
-        5 => Directive::Stores(Store::Numbers(Width::Byte)),
-        6 => Directive::Stores(Store::Numbers(Width::Half)),
-        7 => Directive::Stores(Store::Numbers(Width::Word)),
-        8 => Directive::Stores(Store::Numbers(Width::Dword)),
-        9 => Directive::Stores(Store::Float),
-        10 => Directive::Stores(Store::Text(1)),
-        _ => Directive::Stores(Store::Text(0)),
+// The table of all directives.
+#[derive(Drop)]
+pub struct Names {
+    rows: [u8; SLOTS + 1 + COUNT * ROW],
+    ghost named: { DirectiveNames rows },
+}
+
+impl Names {
+    // A constant is built anew where it is used: the table is made once a call, and lent down.
+    pub fn new() -> Self {
+        Names { rows: ROWS }
+    }
+}
+
+impl Directive {
+    // What a number in a row says.
+    fn numbered(kind: u8) -> Directive
+        requires { kind ≤ 11 }
+        ensures { directive_number result ≡ kind }
+    {
+        match kind {
+            0 => Directive::Symbol,
+            1 => Directive::Ignored,
+            2 => Directive::Equate,
+            3 => Directive::Reserves(Reserve::Align),
+            4 => Directive::Reserves(Reserve::Space),
+            5 => Directive::Stores(Store::Numbers(Width::Byte)),
+            6 => Directive::Stores(Store::Numbers(Width::Half)),
+            7 => Directive::Stores(Store::Numbers(Width::Word)),
+            8 => Directive::Stores(Store::Numbers(Width::Dword)),
+            9 => Directive::Stores(Store::Float),
+            10 => Directive::Stores(Store::Text(1)),
+            _ => Directive::Stores(Store::Text(0)),
+        }
     }
 }
 
 // The directive that a statement begins with.
 pub fn directive_of(names: &Names, s: &[u8]) -> Option<Spelling>
-    requires { DirectiveNames names.now }
     ensures { (result ≡ row_code (row_in directives s.now)) × SpelledWithin result (length s.now) }
 {
     if !first_is(s, b'.') {
         return None;
     }
-    let at = prefix_in(names, s)?;
+    let at = prefix_in(&names.rows, s)?;
     Some(Spelling {
-        directive: directive_numbered(names[at + KIND]),
-        len: names[at + LENGTH] as usize,
-        in_data: names[at + IN_DATA] != 0,
+        directive: Directive::numbered(names.rows[at + KIND]),
+        len: names.rows[at + LENGTH] as usize,
+        in_data: names.rows[at + IN_DATA] != 0,
     })
 }
 

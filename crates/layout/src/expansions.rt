@@ -9,14 +9,14 @@ ghost use Rattle.layout.specs.Pseudos.{is_single};
 ghost use Rattle.layout.specs.Addresses.{label_address};
 ghost use Rattle.layout.specs.Rounds.{constant};
 ghost use Rattle.layout.specs.Expansions.{word, li_load, li_constant, built, instructions};
-ghost use Rattle.layout.specs.Code.Steps.{Exists};
-ghost use Rattle.layout.specs.Code.Tables.{LabelsIndexed};
+ghost use Rattle.layout.specs.Code.Tables.{LabelsSearchable};
 ghost use Rattle.layout.specs.Code.Placed.{WherePlaced};
-ghost use Rattle.layout.specs.Code.Names.{EquateTable, NamesReady, NamesKnown};
-ghost use Rattle.layout.specs.Code.Expands.{wanted_of, arguments_of, looked_up_as, WhereKnown, looked_up_in};
+ghost use Rattle.layout.specs.Code.Names.{EquatesSearchable, WhereKnown, NamesReady, NamesKnown};
+ghost use Rattle.layout.specs.Code.Expands.{wanted_of, arguments_of, looked_up_as, looked_up_in};
 
-use crate::addresses::{label_address, spaced_address};
-use crate::equates::{constant, spaced_constant};
+use crate::equates::Equates;
+use crate::labels::Labels;
+use crate::names::Names;
 use crate::pieces::word_len;
 use crate::pseudo::{Pseudo, is_single};
 use crate::refusal::Refusal;
@@ -29,55 +29,37 @@ use numbers::registers::Register;
 use numbers::text::{first_is, span_bytes};
 
 // A label's address by an operand, whose white-space runs are one space. Most have no white space.
-fn operand_address(
-    text: &[u8],
-    labels: &[u8],
-    index: &[u16],
-    count: usize,
-    operand: &[u8],
-) -> Option<u32>
-    requires { LabelsIndexed text.now labels.now index.now count }
-    ensures { WherePlaced text.now labels.now index.now count
+fn operand_address(labels: Labels<'_>, operand: &[u8]) -> Option<u32>
+    requires { LabelsSearchable labels }
+    ensures { WherePlaced labels.entry
         (λ base σ. result ≡ label_address base σ (one_spaced operand.now)) }
 {
     if word_len(operand) == operand.len() {
-        return label_address(text, labels, index, count, operand);
+        return labels.address(operand);
     }
-    spaced_address(text, labels, index, count, operand)
+    labels.spaced_address(operand)
 }
 
 // An equate's value by an operand, likewise.
-fn operand_constant(
-    text: &[u8],
-    equates: &[u8],
-    index: &[u16],
-    count: usize,
-    operand: &[u8],
-) -> Option<i64>
-    requires { Exists (EquateTable text.now equates.now index.now count) }
-    ensures { WhereKnown text.now equates.now index.now count (λ ks. result ≡ constant ks (one_spaced operand.now)) }
+fn operand_constant(equates: Equates<'_>, operand: &[u8]) -> Option<i64>
+    requires { EquatesSearchable equates }
+    ensures { WhereKnown equates.entry (λ ks. result ≡ constant ks (one_spaced operand.now)) }
 {
     if word_len(operand) == operand.len() {
-        return constant(text, equates, index, count, operand);
+        return equates.constant(operand);
     }
-    spaced_constant(text, equates, index, count, operand)
+    equates.spaced_constant(operand)
 }
 
 // The same where 32 signed bits hold it, or 19. What begins with a quote is no name.
-fn li_constant(
-    text: &[u8],
-    equates: &[u8],
-    index: &[u16],
-    count: usize,
-    operand: &[u8],
-) -> Result<i32, Refusal>
-    requires { Exists (EquateTable text.now equates.now index.now count) }
-    ensures { WhereKnown text.now equates.now index.now count (λ ks. numbered result ≡ li_constant (constant ks) (one_spaced operand.now)) }
+fn li_constant(equates: Equates<'_>, operand: &[u8]) -> Result<i32, Refusal>
+    requires { EquatesSearchable equates }
+    ensures { WhereKnown equates.entry (λ ks. numbered result ≡ li_constant (constant ks) (one_spaced operand.now)) }
 {
     if first_is(operand, b'\'') {
         return Err(Refusal::UnknownConstant);
     }
-    let v = operand_constant(text, equates, index, count, operand).ok_or(Refusal::UnknownConstant)?;
+    let v = operand_constant(equates, operand).ok_or(Refusal::UnknownConstant)?;
     if in_signed32(v) {
         return Ok(v as i32);
     }
@@ -104,81 +86,49 @@ fn number_arguments(rd: Register, v: i32) -> Arguments
 
 // An equate's value, or 19.
 fn equate_arguments(
-    text: &[u8],
-    equates: &[u8],
-    index: &[u16],
-    count: usize,
+    equates: Equates<'_>,
     rd: Register,
     operand: &[u8],
 ) -> Result<Arguments, Refusal>
-    requires { Exists (EquateTable text.now equates.now index.now count) }
-    ensures { WhereKnown text.now equates.now index.now count
+    requires { EquatesSearchable equates }
+    ensures { WhereKnown equates.entry
         (λ ks. looked_up_as result ≡ mapped (li_load (is_single None) rd.0) (li_constant (constant ks) (one_spaced operand.now))) }
 {
-    let v = li_constant(text, equates, index, count, operand)?;
+    let v = li_constant(equates, operand)?;
     Ok(Arguments::Word(rd, bits_of_i32(v)))
 }
 
 // A label's address, or 20.
-fn label_arguments(
-    text: &[u8],
-    labels: &[u8],
-    index: &[u16],
-    count: usize,
-    rd: Register,
-    operand: &[u8],
-) -> Result<Arguments, Refusal>
-    requires { LabelsIndexed text.now labels.now index.now count }
-    ensures { WherePlaced text.now labels.now index.now count
+fn label_arguments(labels: Labels<'_>, rd: Register, operand: &[u8]) -> Result<Arguments, Refusal>
+    requires { LabelsSearchable labels }
+    ensures { WherePlaced labels.entry
         (λ base σ. looked_up_as result ≡ or_refuse 20 (label_address base σ (one_spaced operand.now)) (λ n. Ok (word rd.0 n))) }
 {
-    let a = operand_address(text, labels, index, count, operand).ok_or(Refusal::UnknownLabel)?;
+    let a = operand_address(labels, operand).ok_or(Refusal::UnknownLabel)?;
     Ok(Arguments::Word(rd, a))
 }
 
-// What a pseudo wants, its name looked up.
-pub fn look_up(
-    text: &[u8],
-    labels: &[u8],
-    label_index: &[u16],
-    label_count: usize,
-    equates: &[u8],
-    equate_index: &[u16],
-    equate_count: usize,
-    s: &[u8],
-    wanted: Wanted,
-) -> Result<Arguments, Refusal>
-    requires { NamesReady text.now labels.now label_index.now label_count equates.now equate_index.now equate_count }
-    ensures { NamesKnown text.now labels.now label_index.now label_count equates.now equate_index.now equate_count
-        (λ names. looked_up_as result ≡ looked_up_in names (wanted_of s.now wanted)) }
-{
-    match wanted {
-        Wanted::Register(rd) => Ok(Arguments::Word(rd, 0)),
-        Wanted::Number(rd, v) => Ok(number_arguments(rd, v)),
-        Wanted::Equate(rd, name) => equate_arguments(
-            text,
-            equates,
-            equate_index,
-            equate_count,
-            rd,
-            span_bytes(s, name),
-        ),
-        Wanted::Label(name) => label_arguments(
-            text,
-            labels,
-            label_index,
-            label_count,
-            Register::ZERO,
-            span_bytes(s, name),
-        ),
-        Wanted::RegisterLabel(rd, name) => label_arguments(
-            text,
-            labels,
-            label_index,
-            label_count,
-            rd,
-            span_bytes(s, name),
-        ),
+impl Names<'_> {
+    // What a pseudo wants, its name looked up.
+    pub fn look_up(self, s: &[u8], wanted: Wanted) -> Result<Arguments, Refusal>
+        requires { NamesReady self }
+        ensures { NamesKnown self.entry (λ scope. looked_up_as result ≡ looked_up_in scope (wanted_of s.now wanted)) }
+    {
+        match wanted {
+            Wanted::Register(rd) => Ok(Arguments::Word(rd, 0)),
+            Wanted::Number(rd, v) => Ok(number_arguments(rd, v)),
+            Wanted::Equate(rd, name) => equate_arguments(*self.equates, rd, span_bytes(s, name)),
+            Wanted::Label(name) => label_arguments(
+                *self.labels,
+                Register::ZERO,
+                span_bytes(s, name),
+            ),
+            Wanted::RegisterLabel(rd, name) => label_arguments(
+                *self.labels,
+                rd,
+                span_bytes(s, name),
+            ),
+        }
     }
 }
 

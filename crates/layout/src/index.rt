@@ -10,28 +10,19 @@ const MIX: usize = 2654435761;
 
 const WORD: usize = 4294967296;
 
-// What is mixed so far, with the byte that is left of a name of odd length.
-fn mix_last(name: &[u8], i: usize, h: usize) -> usize
-    requires { (length name.now ≤ i + 1) × (h < 4294967296) }
-    ensures { (result ≡ mixed h (drop i name.now)) × (result < 4294967296) }
-{
-    if i < name.len() {
-        return (h * MIX + name[i] as usize) % WORD;
-    }
-    h
-}
-
 // A name's bucket, by its bytes two at a time: each multiplication waits for the one before it.
 pub fn bucket_of(name: &[u8]) -> usize
     ensures { result ≡ bucket_of name.now }
 {
+    let (pairs, last) = name.as_chunks::<2>();
     let mut h: usize = 0;
-    let mut i = 0;
-    while i + 1 < name.len() {
-        h = (h * MIX + (name[i] as usize + 256 * (name[i + 1] as usize))) % WORD;
-        i += 2;
+    for &pair in pairs {
+        h = (h * MIX + u16::from_le_bytes(pair) as usize) % WORD;
     }
-    mix_last(name, i, h) * MIX % WORD / 4194304
+    if let Some(&b) = last.first() {
+        h = (h * MIX + b as usize) % WORD;
+    }
+    h * MIX % WORD / 4194304
 }
 
 // The name of the next number goes to the front of its bucket's chain.

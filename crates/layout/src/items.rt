@@ -2,16 +2,15 @@
 ghost use Rattle.numbers.specs.Code.Spans.{spanned};
 ghost use Rattle.layout.specs.Pseudos.{item_of};
 ghost use Rattle.layout.specs.Stage.{add_item, text_line};
-ghost use Rattle.layout.specs.Code.Kinds.{PseudoNames, kind_item, kind_source};
 ghost use Rattle.layout.specs.Code.Spans.{SpanWithin, LineIn, piece_at};
 ghost use Rattle.layout.specs.Code.Lent.{ItemsReady, ItemsSteps};
 
 use crate::limits::Room;
-use crate::pseudo::{LineKind, Names, kind_of};
-use crate::records::{ItemRecord, put_item};
+use crate::pseudo::{Names, Pseudo, item_kind, kind_of, reserved_words};
+use crate::records::{ItemRecord, Record};
 use crate::refusal::Refusal;
 use crate::state::ItemCount;
-use numbers::text::Span;
+use numbers::text::{Span, span_bytes};
 
 // An item's record is written, and its words are reserved.
 fn add_item(
@@ -20,30 +19,30 @@ fn add_item(
     room: Room,
     st: ItemCount,
     line: u32,
-    kind: LineKind,
+    pseudo: Option<Pseudo>,
+    source: Span,
 ) -> Result<ItemCount, Refusal>
-    requires { ItemsReady text.now items.old room st × LineIn text.now line × SpanWithin text.now (kind_source kind) }
+    requires { ItemsReady text.now items.old room st × LineIn text.now line × SpanWithin text.now source }
     ensures { ItemsSteps text.now items room st result
-        (add_item room line (kind_item kind) (piece_at text.now (kind_source kind))) }
+        (add_item room line «pseudo» (piece_at text.now source)) }
 {
     let count = st.items;
     if room.items <= count {
         return Err(Refusal::ItemsFull);
     }
-    let words = st.words + kind.words(text);
+    let words = st.words + reserved_words(pseudo, span_bytes(text, source));
     if room.words < words {
         return Err(Refusal::WordsFull);
     }
-    let source = kind.source();
     let item = ItemRecord {
         address: (4 * st.words) as u32,
         line,
-        kind: kind.number(),
+        kind: item_kind(pseudo),
         first: 0,
         start: source.start as u32,
         len: source.len as u32,
     };
-    put_item(items, count, item);
+    item.put(items, count);
     Ok(ItemCount {
         items: count + 1,
         words,
@@ -60,10 +59,10 @@ pub fn text_line(
     line: u32,
     source: Span,
 ) -> Result<ItemCount, Refusal>
-    requires { ItemsReady text.now items.old room st × LineIn text.now line × SpanWithin text.now source
-        × PseudoNames names.now }
+    requires { ItemsReady text.now items.old room st × LineIn text.now line × SpanWithin text.now source }
     ensures { ItemsSteps text.now items room st result
         (text_line room line (piece_at text.now source) (item_of (spanned text.now source))) }
 {
-    add_item(text, items, room, st, line, kind_of(names, text, source)?)
+    let pseudo = kind_of(names, span_bytes(text, source))?;
+    add_item(text, items, room, st, line, pseudo, source)
 }

@@ -6,86 +6,84 @@ ghost use Rattle.layout.specs.Stage.{add_label, label_step};
 ghost use Rattle.layout.specs.Code.Spans.{SpanWithin, LabelWithin, LineIn, piece_at, label_part_at};
 ghost use Rattle.layout.specs.Code.Places.{PlaceFits};
 ghost use Rattle.layout.specs.Code.Index.{bucket_of};
-ghost use Rattle.layout.specs.Code.Tables.{label_name_at, LabelsIndexed, LooksUp};
+ghost use Rattle.layout.specs.Code.Tables.{label_name_at, LabelsSearchable, LooksUp};
 ghost use Rattle.layout.specs.Code.Lent.{LabelsReady, LabelsSteps};
 
 use crate::index::{BUCKETS, bucket_of, insert};
 use crate::limits::Room;
-use crate::records::{LabelRecord, get_label, put_label};
+use crate::records::{LabelRecord, Record};
 use crate::refusal::Refusal;
 use crate::state::Place;
 use numbers::text::{Span, same_bytes, same_one_spaced, span_bytes};
 
-// The kth label's name.
-fn label_name<'a>(text: &'a [u8], labels: &[u8], k: usize) -> &'a [u8]
-    requires { k * label_size + label_size ≤ length labels.now }
-    ensures { result.now ≡ label_name_at text.now labels.now k }
-{
-    let label = get_label(labels, k);
-    let name = Span {
-        start: label.start as usize,
-        len: label.len as usize,
-    };
-    span_bytes(text, name)
+// Labels' records with the text that their names are in, and the index of the names.
+#[derive(Clone, Copy)]
+pub struct Labels<'a> {
+    pub text: &'a [u8],
+    pub records: &'a [u8],
+    pub index: &'a [u16],
+    pub count: usize,
 }
 
-// Has the kth record this name?
-fn is_named(text: &[u8], labels: &[u8], k: usize, name: &[u8]) -> bool
-    requires { k * label_size + label_size ≤ length labels.now }
-    ensures { result ≡ same (label_name_at text.now labels.now k) name.now }
-{
-    same_bytes(label_name(text, labels, k), name)
-}
-
-// The one of so many records that has this name, by the chain of the name's bucket. The contract alone names the count.
-fn find_in(
-    text: &[u8],
-    labels: &[u8],
-    index: &[u16],
-    count: usize,
-    name: &[u8],
-    bucket: usize,
-) -> Option<usize>
-    requires { LabelsIndexed text.now labels.now index.now count × (bucket ≡ bucket_of name.now) }
-    ensures { LooksUp text.now labels.now count name.now result }
-{
-    let mut entry = index[bucket] as usize;
-    while 0 < entry {
-        let k = entry - 1;
-        if is_named(text, labels, k, name) {
-            return Some(k);
-        }
-        entry = index[BUCKETS + k] as usize;
+impl<'a> Labels<'a> {
+    // The kth label's name.
+    fn name(self, k: usize) -> &'a [u8]
+        requires { k * label_size + label_size ≤ length self.records.now }
+        ensures { result.now ≡ label_name_at self.entry.text.now self.entry.records.now k }
+    {
+        let label = LabelRecord::get(self.records, k);
+        let name = Span {
+            start: label.start as usize,
+            len: label.len as usize,
+        };
+        span_bytes(self.text, name)
     }
-    None
-}
 
-// The one of so many records that has this name.
-pub fn find_label(
-    text: &[u8],
-    labels: &[u8],
-    index: &[u16],
-    count: usize,
-    name: &[u8],
-) -> Option<usize>
-    requires { LabelsIndexed text.now labels.now index.now count }
-    ensures { LooksUp text.now labels.now count name.now result }
-{
-    find_in(text, labels, index, count, name, bucket_of(name))
-}
-
-// The one of so many records whose name an operand is, its white-space runs made one space. Few operands have white space: the records are searched in
-// order, and nothing is copied.
-pub fn find_spaced(text: &[u8], labels: &[u8], count: usize, operand: &[u8]) -> Option<usize>
-    requires { count * label_size ≤ length labels.now }
-    ensures { LooksUp text.now labels.now count (one_spaced operand.now) result }
-{
-    for k in 0..count {
-        if same_one_spaced(operand, label_name(text, labels, k)) {
-            return Some(k);
-        }
+    // Has the kth record this name?
+    fn is_named(self, k: usize, name: &[u8]) -> bool
+        requires { k * label_size + label_size ≤ length self.records.now }
+        ensures { result ≡ same (label_name_at self.entry.text.now self.entry.records.now k) name.now }
+    {
+        same_bytes(self.name(k), name)
     }
-    None
+
+    // The one of the records that has this name, by the chain of the name's bucket. The contract alone names the count.
+    fn find_in(self, name: &[u8], bucket: usize) -> Option<usize>
+        requires { LabelsSearchable self × (bucket ≡ bucket_of name.now) }
+        ensures { LooksUp self.entry name.now result }
+    {
+        let mut entry = self.index[bucket] as usize;
+        while 0 < entry {
+            let k = entry - 1;
+            if self.is_named(k, name) {
+                return Some(k);
+            }
+            entry = self.index[BUCKETS + k] as usize;
+        }
+        None
+    }
+
+    // The one of the records that has this name.
+    pub fn find(self, name: &[u8]) -> Option<usize>
+        requires { LabelsSearchable self }
+        ensures { LooksUp self.entry name.now result }
+    {
+        self.find_in(name, bucket_of(name))
+    }
+
+    // The one of the records whose name an operand is, its white-space runs made one space. Few operands have white space: the records are searched in
+    // order, and nothing is copied.
+    pub fn find_spaced(self, operand: &[u8]) -> Option<usize>
+        requires { self.count * label_size ≤ length self.records.now }
+        ensures { LooksUp self.entry (one_spaced operand.now) result }
+    {
+        for k in 0..self.count {
+            if same_one_spaced(operand, self.name(k)) {
+                return Some(k);
+            }
+        }
+        None
+    }
 }
 
 // A label, with its place for its address.
@@ -112,16 +110,22 @@ fn add_label(
     };
     let bytes = span_bytes(text, name);
     let bucket = bucket_of(bytes);
-    match find_in(text, labels, index, count, bytes, bucket) {
+    let known = Labels {
+        text,
+        records: labels,
+        index,
+        count,
+    };
+    match known.find_in(bytes, bucket) {
         Some(k) => {
-            put_label(labels, k, label);
+            label.put(labels, k);
             Ok(count)
         }
         None => {
             if room.labels <= count {
                 return Err(Refusal::LabelsFull);
             }
-            put_label(labels, count, label);
+            label.put(labels, count);
             insert(index, count, bucket);
             Ok(count + 1)
         }

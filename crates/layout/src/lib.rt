@@ -17,6 +17,7 @@ mod labels;
 pub mod limits;
 mod line;
 mod little_endian;
+mod names;
 mod order;
 mod pieces;
 mod pseudo;

@@ -2,8 +2,6 @@
 ghost use Rattle.std.specs.Prelude.{◌≡◌};
 ghost use Rattle.layout.specs.Limits.{room_of};
 
-use numbers::ints::least;
-
 pub const BASE_LIMIT: u32 = 0xFF000000;
 
 pub const TEXT_LIMIT: usize = 65536;
@@ -28,11 +26,6 @@ pub const EQUATE_SIZE: usize = 24;
 
 pub const ITEM_SIZE: usize = 24;
 
-// The layout's own records: an equate's expression, a label word.
-pub const EXPR_SIZE: usize = 16;
-
-pub const LABEL_WORD_SIZE: usize = 16;
-
 // How much may be laid out: each limit met with what is lent.
 #[derive(Clone, Copy)]
 pub struct Room {
@@ -55,11 +48,11 @@ impl Room {
         }) }
     {
         Room {
-            words: least(WORD_LIMIT, words),
-            bytes: least(DATA_LIMIT, bytes),
-            labels: least(LABEL_LIMIT, labels / LABEL_SIZE),
-            equates: least(EQUATE_LIMIT, equates / EQUATE_SIZE),
-            items: least(ITEM_LIMIT, items / ITEM_SIZE),
+            words: WORD_LIMIT.min(words),
+            bytes: DATA_LIMIT.min(bytes),
+            labels: LABEL_LIMIT.min(labels / LABEL_SIZE),
+            equates: EQUATE_LIMIT.min(equates / EQUATE_SIZE),
+            items: ITEM_LIMIT.min(items / ITEM_SIZE),
         }
     }
 }

@@ -12,7 +12,6 @@ ghost use Rattle.layout.specs.Directives.{directives, row_in};
 ghost use Rattle.layout.specs.Statements.{stores, own, ends_section_name, section_named, section_of, is_section_line, section_line, symbol_after};
 ghost use Rattle.layout.specs.Statements.{equate_of, equ_of, other_in, assignment_of, reserves_in, stores_in, directive_in};
 ghost use Rattle.layout.specs.Statements.{unlabelled_of, line_of};
-ghost use Rattle.layout.specs.Code.Rows.{DirectiveNames};
 ghost use Rattle.layout.specs.Code.Spans.{span_of, piece_at, statement_code, LineStands};
 ghost use Rattle.layout.specs.Code.Cuts.{is_mark, cut_line, LineCut, NoSignBefore, is_string_row, is_bare, Parted, Follows, says_in};
 
@@ -22,7 +21,7 @@ use crate::refusal::Refusal;
 use crate::scan::Cut;
 use crate::state::Section;
 use numbers::text::{
-    Span, find, find_from, first_is, is_space, same_bytes, span_bytes, starts_with, trim,
+    Span, find, find_from, first_is, is_space, leading, same_bytes, span_bytes, starts_with, trim,
 };
 
 // An equate's name and expression; the expression of an `.equ` or `.set` parted at a blank is read with each run of
@@ -92,15 +91,11 @@ fn section_of(name: &[u8]) -> Result<Statement, Refusal>
 }
 
 // How many bytes stand before the first white space or comma.
+#[tactic(auto, using(crate::proofs::SpanLaws::count_leading))]
 fn section_name_len(s: &[u8]) -> usize
     ensures { result ≡ count_before ends_section_name s.now }
 {
-    for (i, &b) in s.iter().enumerate() {
-        if is_space(b) | (b == b',') {
-            return i;
-        }
-    }
-    s.len()
+    leading(s, |b| !(is_space(b) | (b == b',')))
 }
 
 fn is_section_line(s: &[u8]) -> bool
@@ -297,7 +292,7 @@ fn unlabelled(
     part: Span,
     from: usize,
 ) -> Result<Statement, Refusal>
-    requires { DirectiveNames names.now × LineCut text.now cut × Follows text.now cut part
+    requires { LineCut text.now cut × Follows text.now cut part
         × NoSignBefore from (spanned text.now part) }
     ensures { numbered result ≡ statement_code (says_in text.now cut part (unlabelled_of section (piece_at text.now part))) }
 {
@@ -372,7 +367,7 @@ fn part_label(text: &[u8], section: Section, part: Span, mark: usize) -> Labelle
 
 // A line as it was cut, in a section: its label and what it says.
 pub fn line_of(names: &Names, text: &[u8], section: Section, cut: Cut) -> Line
-    requires { DirectiveNames names.now × LineCut text.now cut }
+    requires { LineCut text.now cut }
     ensures { LineStands result (line_of section (cut_line text.now cut)) }
 {
     let part = cut.part;

@@ -6,7 +6,7 @@ ghost use Rattle.layout.specs.Pieces.{piece, trim_piece, from_byte};
 ghost use Rattle.layout.specs.Bytes.{count_before};
 ghost use Rattle.layout.specs.Code.Spans.{span_of, piece_at, SpanWithin};
 
-use numbers::text::{Span, is_space, span_bytes, trim_span};
+use numbers::text::{Span, is_space, leading, span_bytes, trim_span};
 
 // A part without the white space at its ends.
 fn trim_part(text: &[u8], part: Span) -> Span
@@ -70,15 +70,9 @@ pub fn trim_from(text: &[u8], part: Span, n: usize) -> Span
 }
 
 // How many bytes stand before the first white space.
+#[tactic(auto, using(crate::proofs::SpanLaws::count_leading))]
 pub fn word_len(s: &[u8]) -> usize
     ensures { result ≡ count_before is_space s.now }
 {
-    let mut i = 0;
-    while i < s.len() {
-        if is_space(s[i]) {
-            return i;
-        }
-        i += 1;
-    }
-    i
+    leading(s, |b| !is_space(b))
 }

@@ -1,9 +1,8 @@
 // Pseudo-instructions: the table of their spellings, a text line's kind, and the words that it reserves.
 ghost use Rattle.layout.specs.Code.Numbers.{numbered};
 ghost use Rattle.std.specs.Prelude.{◌≡◌, ◌≤◌};
-ghost use Rattle.numbers.specs.Code.Spans.{spanned};
-ghost use Rattle.layout.specs.Pseudos.{item_of, pseudo_operands, is_single, li_words, pseudo_words, reserved_words, pseudo_kind, item_kind};
-ghost use Rattle.layout.specs.Code.Kinds.{PseudoNames, begins_as_pseudo, text_line_code, kind_item, kind_source};
+ghost use Rattle.layout.specs.Pseudos.{item_of, pseudo_operands, is_single, li_words, pseudo_words, reserved_words, item_kind};
+ghost use Rattle.layout.specs.Code.Kinds.{PseudoNames, begins_as_pseudo, text_line_code};
 
 use crate::pieces::word_len;
 use crate::refusal::Refusal;
@@ -11,27 +10,20 @@ use numbers::imm::parse_imm_one_spaced;
 use numbers::ints::in_signed12;
 use numbers::operands::item_operand_at;
 use numbers::table::{ROW, SLOTS, word_in};
-use numbers::text::{Span, first_is, span_bytes, text_before};
+use numbers::text::{first_is, span_bytes, text_before};
 
-// The nine pseudo-instructions, in the order of their item kinds 1 to 9.
+// The nine pseudo-instructions, each by its item kind; an ordinary line's kind is 0.
 #[derive(Clone, Copy)]
 pub enum Pseudo {
-    Li,
-    La,
-    Push,
-    Pop,
-    Print,
-    PrintStr,
-    Read,
-    ReadByte,
-    Random,
-}
-
-// An item's kind, and where its source stands.
-#[derive(Clone, Copy)]
-pub enum LineKind {
-    Instr(Span),
-    Pseudo(Pseudo, Span),
+    Li = 1,
+    La = 2,
+    Push = 3,
+    Pop = 4,
+    Print = 5,
+    PrintStr = 6,
+    Read = 7,
+    ReadByte = 8,
+    Random = 9,
 }
 
 const COUNT: usize = 20;
@@ -41,11 +33,9 @@ const KIND: usize = 14;
 
 const BARE: usize = 15;
 
-pub type Names = [u8; SLOTS + 1 + COUNT * ROW];
-
-// A constant is built anew where it is used: the table is made once a call, and lent down. First, at which row each
-// slot's rows begin and where the last one's end; then the rows, slot by slot (`tools/table` prints it).
-pub const NAMES: Names = *b"\
+// First, at which row each slot's rows begin and where the last one's end; then the rows, slot by slot (`tools/table`
+// prints it).
+const ROWS: [u8; SLOTS + 1 + COUNT * ROW] = *b"\
     \x00\x01\x01\x01\x01\x01\x01\x02\x03\x04\x05\x05\x06\x07\x08\x09\
     \x09\x09\x09\x09\x09\x09\x09\x09\x09\x09\x0a\x0a\x0a\x0b\x0b\x0c\
     \x0c\x0c\x0c\x0c\x0d\x0d\x0d\x0e\x0e\x0e\x0e\x0e\x0e\x0e\x0e\x0e\
@@ -72,33 +62,68 @@ pub const NAMES: Names = *b"\
     printStrLn    \x00\x01\
     random        \x09\x01";
 
-// The pseudo of a kind.
-fn pseudo_numbered(kind: u8) -> Pseudo
-    requires { (1 ≤ kind) × (kind ≤ 9) }
-    ensures { pseudo_kind result ≡ kind }
-{
-    match kind {
-        1 => Pseudo::Li,
-        2 => Pseudo::La,
-        3 => Pseudo::Push,
-        4 => Pseudo::Pop,
-        5 => Pseudo::Print,
-        6 => Pseudo::PrintStr,
-        7 => Pseudo::Read,
-        8 => Pseudo::ReadByte,
-        _ => Pseudo::Random,
+// The table of all spellings.
+#[derive(Drop)]
+pub struct Names {
+    rows: [u8; SLOTS + 1 + COUNT * ROW],
+    ghost named: { PseudoNames rows },
+}
+
+impl Names {
+    // A constant is built anew where it is used: the table is made once a call, and lent down.
+    pub fn new() -> Self {
+        Names { rows: ROWS }
+    }
+}
+
+impl Pseudo {
+    // The pseudo of an item's kind; none of an ordinary line's.
+    pub fn numbered(kind: u32) -> Option<Pseudo>
+        ensures { kind ≤ 9 → item_kind result ≡ kind }
+    {
+        match kind {
+            1 => Some(Pseudo::Li),
+            2 => Some(Pseudo::La),
+            3 => Some(Pseudo::Push),
+            4 => Some(Pseudo::Pop),
+            5 => Some(Pseudo::Print),
+            6 => Some(Pseudo::PrintStr),
+            7 => Some(Pseudo::Read),
+            8 => Some(Pseudo::ReadByte),
+            9 => Some(Pseudo::Random),
+            _ => None,
+        }
+    }
+
+    fn words(self, s: &[u8]) -> usize
+        ensures { result ≡ pseudo_words self s.now }
+    {
+        match self {
+            Pseudo::Li => li_word_count(s),
+            Pseudo::La => 2,
+            Pseudo::Push => 2,
+            Pseudo::Pop => 2,
+            Pseudo::Print => 3,
+            Pseudo::PrintStr => 11,
+            Pseudo::Read => 6,
+            Pseudo::ReadByte => 4,
+            Pseudo::Random => 8,
+        }
     }
 }
 
 // An item's kind, as its record has it.
-pub fn item_kind(kind: u32, source: Span) -> LineKind
-    requires { kind ≤ 9 }
-    ensures { (item_kind (kind_item result) ≡ kind) × (kind_source result ≡ source) }
+pub fn item_kind(pseudo: Option<Pseudo>) -> u32
+    ensures { result ≡ item_kind «pseudo» }
 {
-    if kind == 0 {
-        return LineKind::Instr(source);
-    }
-    LineKind::Pseudo(pseudo_numbered(kind as u8), source)
+    pseudo.map_or(0, |p| p as u32)
+}
+
+// The words that a line reserves.
+pub fn reserved_words(pseudo: Option<Pseudo>, s: &[u8]) -> usize
+    ensures { result ≡ reserved_words «pseudo» s.now }
+{
+    pseudo.map_or(1, |p| p.words(s))
 }
 
 // Does s begin as a pseudo's name may? Most instructions do not, and are told by this alone.
@@ -109,33 +134,28 @@ fn begins_as_pseudo(s: &[u8]) -> bool
 }
 
 // What a line is by its first word: a name is followed by a space or, if it may, ends the line.
-fn listed_kind(names: &Names, text: &[u8], source: Span) -> Result<LineKind, Refusal>
-    requires { PseudoNames names.now }
-    ensures { numbered result ≡ text_line_code (item_of (spanned text.now source)) source }
+fn listed_kind(names: &Names, s: &[u8]) -> Result<Option<Pseudo>, Refusal>
+    ensures { numbered result ≡ text_line_code (item_of s.now) }
 {
-    let s = span_bytes(text, source);
     let word = text_before(s, b' ');
-    let Some(at) = word_in(names, word) else {
-        return Ok(LineKind::Instr(source));
+    let Some(at) = word_in(&names.rows, word) else {
+        return Ok(None);
     };
-    if (s.len() <= word.len()) & (names[at + BARE] == 0) {
-        return Ok(LineKind::Instr(source));
+    if (s.len() <= word.len()) & (names.rows[at + BARE] == 0) {
+        return Ok(None);
     }
-    let kind = names[at + KIND];
-    if kind == 0 {
-        return Err(Refusal::Unsupported);
-    }
-    Ok(LineKind::Pseudo(pseudo_numbered(kind), source))
+    let pseudo = Pseudo::numbered(names.rows[at + KIND] as u32).ok_or(Refusal::Unsupported)?;
+    Ok(Some(pseudo))
 }
 
-pub fn kind_of(names: &Names, text: &[u8], source: Span) -> Result<LineKind, Refusal>
-    requires { PseudoNames names.now }
-    ensures { numbered result ≡ text_line_code (item_of (spanned text.now source)) source }
+// What a line of the text section is: none of the pseudos, one of them, or one of the four others.
+pub fn kind_of(names: &Names, s: &[u8]) -> Result<Option<Pseudo>, Refusal>
+    ensures { numbered result ≡ text_line_code (item_of s.now) }
 {
-    if !begins_as_pseudo(span_bytes(text, source)) {
-        return Ok(LineKind::Instr(source));
+    if !begins_as_pseudo(s) {
+        return Ok(None);
     }
-    listed_kind(names, text, source)
+    listed_kind(names, s)
 }
 
 // Is an li a single addi, by what its second operand reads as? Its size and its words both go by this.
@@ -161,67 +181,4 @@ pub fn li_word_count(s: &[u8]) -> usize
         return 1;
     }
     2
-}
-
-fn pseudo_words(pseudo: Pseudo, s: &[u8]) -> usize
-    ensures { result ≡ pseudo_words «pseudo» s.now }
-{
-    match pseudo {
-        Pseudo::Li => li_word_count(s),
-        Pseudo::La => 2,
-        Pseudo::Push => 2,
-        Pseudo::Pop => 2,
-        Pseudo::Print => 3,
-        Pseudo::PrintStr => 11,
-        Pseudo::Read => 6,
-        Pseudo::ReadByte => 4,
-        Pseudo::Random => 8,
-    }
-}
-
-fn pseudo_kind(pseudo: Pseudo) -> u32
-    ensures { result ≡ pseudo_kind «pseudo» }
-{
-    match pseudo {
-        Pseudo::Li => 1,
-        Pseudo::La => 2,
-        Pseudo::Push => 3,
-        Pseudo::Pop => 4,
-        Pseudo::Print => 5,
-        Pseudo::PrintStr => 6,
-        Pseudo::Read => 7,
-        Pseudo::ReadByte => 8,
-        Pseudo::Random => 9,
-    }
-}
-
-impl LineKind {
-    // The words that a line reserves.
-    pub fn words(self, text: &[u8]) -> usize
-        ensures { result ≡ reserved_words (kind_item self) (spanned text.now (kind_source self)) }
-    {
-        match self {
-            LineKind::Instr(_) => 1,
-            LineKind::Pseudo(p, source) => pseudo_words(p, span_bytes(text, source)),
-        }
-    }
-
-    // The kind as an item's record has it.
-    pub fn number(self) -> u32
-        ensures { result ≡ item_kind (kind_item self) }
-    {
-        match self {
-            LineKind::Instr(_) => 0,
-            LineKind::Pseudo(p, _) => pseudo_kind(p),
-        }
-    }
-
-    pub fn source(self) -> Span
-        ensures { result ≡ kind_source self }
-    {
-        match self {
-            LineKind::Instr(source) => source,
-            LineKind::Pseudo(_, source) => source,
-        }
-    }
 }

@@ -1,13 +1,12 @@
-// Records in lent bytes: one struct a kind, by value, with one put and one get.
-ghost use Rattle.std.specs.Prelude.{◌≡◌, ◌+◌, ◌*◌, ◌≤◌, length};
+// Records in lent bytes: one struct a kind, by value, each so many words of four bytes.
+ghost use Rattle.std.specs.Prelude.{◌≡◌, ℕ, ◌+◌, ◌*◌, ◌≤◌, List, map, length};
 ghost use Rattle.layout.specs.Bytes.{put};
-ghost use Rattle.layout.specs.Limits.{label_size, equate_size, item_size};
-ghost use Rattle.layout.specs.Records.{field_bytes, label_fields, equate_fields, item_fields, label_record_at, equate_record_at, item_record_at};
-ghost use Rattle.layout.specs.Code.Tables.{flag_of, expr_size, label_word_size, expr_fields, label_word_fields};
+ghost use Rattle.layout.specs.Records.{RecordField, four, field_bytes, label_fields, equate_fields, item_fields, label_record_at, equate_record_at, item_record_at};
+ghost use Rattle.layout.specs.Code.Tables.{expr_fields, label_word_fields, words_at};
 ghost use Rattle.layout.specs.Code.Tables.{expr_record_at, label_word_record_at};
 
-use crate::limits::{EQUATE_SIZE, EXPR_SIZE, ITEM_SIZE, LABEL_SIZE, LABEL_WORD_SIZE};
-use crate::little_endian::{get_i64, get_u32, put_i64, put_u32};
+use crate::little_endian::{get_u32, put_u32};
+use numbers::ints::{bits_of_i64, i64_of_bits};
 
 // A label: its name's start and length, its address and line. Before the sections' starts are known the address is the
 // code of its place.
@@ -59,137 +58,153 @@ pub struct LabelWordRecord {
     pub line: u32,
 }
 
-pub fn put_label(labels: &mut [u8], k: usize, r: LabelRecord)
-    requires { k * label_size + label_size ≤ length labels.old }
-    ensures { labels.new ≡ put (k * label_size) (field_bytes (label_fields r)) labels.old }
-{
-    let at = k * LABEL_SIZE;
-    put_u32(labels, at, r.start);
-    put_u32(labels, at + 4, r.len);
-    put_u32(labels, at + 8, r.address);
-    put_u32(labels, at + 12, r.line);
-}
+// A record in lent bytes: so many words of four bytes, one after the other, the low byte of each first.
+pub trait Record<const N: usize>: Copy {
+    ghost fields: { Self → List RecordField };
 
-pub fn get_label(labels: &[u8], k: usize) -> LabelRecord
-    requires { k * label_size + label_size ≤ length labels.now }
-    ensures { result ≡ label_record_at labels.now k }
-{
-    let at = k * LABEL_SIZE;
-    LabelRecord {
-        start: get_u32(labels, at),
-        len: get_u32(labels, at + 4),
-        address: get_u32(labels, at + 8),
-        line: get_u32(labels, at + 12),
+    ghost record_at: { List ℕ → ℕ → Self };
+
+    fn to_words(self) -> [u32; N]
+        ensures { field_bytes (map four result) ≡ field_bytes (fields self) };
+
+    fn from_words(words: &[u32; N]) -> Self
+        ensures { (b : List ℕ) (k : ℕ) → k * (4 * N) + 4 * N ≤ length b → words.now ≡ words_at N b (k * (4 * N)) → result ≡ record_at b k };
+
+    // Writes the kth record of a table.
+    fn put(self, table: &mut [u8], k: usize)
+        requires { k * (4 * N) + 4 * N ≤ length table.old }
+        ensures { table.new ≡ put (k * (4 * N)) (field_bytes (fields self)) table.old }
+    {
+        let words = self.to_words();
+        let at = k * (4 * N);
+        for (i, &word) in words.iter().enumerate() {
+            put_u32(table, at + 4 * i, word);
+        }
+    }
+
+    // Reads the kth record of a table.
+    fn get(table: &[u8], k: usize) -> Self
+        requires { k * (4 * N) + 4 * N ≤ length table.now }
+        ensures { result ≡ record_at table.now k }
+    {
+        let at = k * (4 * N);
+        let mut words = [0u32; N];
+        for (i, word) in words.iter_mut().enumerate() {
+            *word = get_u32(table, at + 4 * i);
+        }
+        Self::from_words(&words)
     }
 }
 
-pub fn put_equate(equates: &mut [u8], k: usize, r: EquateRecord)
-    requires { k * equate_size + equate_size ≤ length equates.old }
-    ensures { equates.new ≡ put (k * equate_size) (field_bytes (equate_fields r)) equates.old }
-{
-    let at = k * EQUATE_SIZE;
-    put_u32(equates, at, r.start);
-    put_u32(equates, at + 4, r.len);
-    put_u32(equates, at + 8, r.line);
-    put_i64(equates, at + 12, r.value);
-    put_u32(equates, at + 20, r.round);
-}
+impl Record<4> for LabelRecord {
+    ghost fields = { label_fields };
 
-pub fn get_equate(equates: &[u8], k: usize) -> EquateRecord
-    requires { k * equate_size + equate_size ≤ length equates.now }
-    ensures { result ≡ equate_record_at equates.now k }
-{
-    let at = k * EQUATE_SIZE;
-    EquateRecord {
-        start: get_u32(equates, at),
-        len: get_u32(equates, at + 4),
-        line: get_u32(equates, at + 8),
-        value: get_i64(equates, at + 12),
-        round: get_u32(equates, at + 20),
+    ghost record_at = { label_record_at };
+
+    fn to_words(self) -> [u32; 4] {
+        [self.start, self.len, self.address, self.line]
+    }
+
+    fn from_words(words: &[u32; 4]) -> LabelRecord {
+        let [start, len, address, line] = *words;
+        LabelRecord {
+            start,
+            len,
+            address,
+            line,
+        }
     }
 }
 
-pub fn put_item(items: &mut [u8], k: usize, r: ItemRecord)
-    requires { k * item_size + item_size ≤ length items.old }
-    ensures { items.new ≡ put (k * item_size) (field_bytes (item_fields r)) items.old }
-{
-    let at = k * ITEM_SIZE;
-    put_u32(items, at, r.address);
-    put_u32(items, at + 4, r.line);
-    put_u32(items, at + 8, r.kind);
-    put_u32(items, at + 12, r.first);
-    put_u32(items, at + 16, r.start);
-    put_u32(items, at + 20, r.len);
-}
+impl Record<6> for EquateRecord {
+    ghost fields = { equate_fields };
 
-pub fn get_item(items: &[u8], k: usize) -> ItemRecord
-    requires { k * item_size + item_size ≤ length items.now }
-    ensures { result ≡ item_record_at items.now k }
-{
-    let at = k * ITEM_SIZE;
-    ItemRecord {
-        address: get_u32(items, at),
-        line: get_u32(items, at + 4),
-        kind: get_u32(items, at + 8),
-        first: get_u32(items, at + 12),
-        start: get_u32(items, at + 16),
-        len: get_u32(items, at + 20),
+    ghost record_at = { equate_record_at };
+
+    fn to_words(self) -> [u32; 6] {
+        let value = bits_of_i64(self.value);
+        let low = (value % 4294967296) as u32;
+        let high = (value / 4294967296) as u32;
+        [self.start, self.len, self.line, low, high, self.round]
+    }
+
+    fn from_words(words: &[u32; 6]) -> EquateRecord {
+        let [start, len, line, low, high, round] = *words;
+        EquateRecord {
+            start,
+            len,
+            line,
+            value: i64_of_bits(low as u64 + 4294967296 * high as u64),
+            round,
+        }
     }
 }
 
-fn flag(b: bool) -> u32
-    ensures { result ≡ flag_of b }
-{
-    if b {
-        return 1;
+impl Record<6> for ItemRecord {
+    ghost fields = { item_fields };
+
+    ghost record_at = { item_record_at };
+
+    fn to_words(self) -> [u32; 6] {
+        [
+            self.address,
+            self.line,
+            self.kind,
+            self.first,
+            self.start,
+            self.len,
+        ]
     }
-    0
-}
 
-pub fn put_expr(exprs: &mut [u8], k: usize, r: ExprRecord)
-    requires { k * expr_size + expr_size ≤ length exprs.old }
-    ensures { exprs.new ≡ put (k * expr_size) (field_bytes (expr_fields r)) exprs.old }
-{
-    let at = k * EXPR_SIZE;
-    put_u32(exprs, at, r.start);
-    put_u32(exprs, at + 4, r.len);
-    put_u32(exprs, at + 8, flag(r.one_space));
-    put_u32(exprs, at + 12, r.place);
-}
-
-pub fn get_expr(exprs: &[u8], k: usize) -> ExprRecord
-    requires { k * expr_size + expr_size ≤ length exprs.now }
-    ensures { result ≡ expr_record_at exprs.now k }
-{
-    let at = k * EXPR_SIZE;
-    ExprRecord {
-        start: get_u32(exprs, at),
-        len: get_u32(exprs, at + 4),
-        one_space: get_u32(exprs, at + 8) == 1,
-        place: get_u32(exprs, at + 12),
+    fn from_words(words: &[u32; 6]) -> ItemRecord {
+        let [address, line, kind, first, start, len] = *words;
+        ItemRecord {
+            address,
+            line,
+            kind,
+            first,
+            start,
+            len,
+        }
     }
 }
 
-pub fn put_label_word(label_words: &mut [u8], k: usize, r: LabelWordRecord)
-    requires { k * label_word_size + label_word_size ≤ length label_words.old }
-    ensures { label_words.new ≡ put (k * label_word_size) (field_bytes (label_word_fields r)) label_words.old }
-{
-    let at = k * LABEL_WORD_SIZE;
-    put_u32(label_words, at, r.at);
-    put_u32(label_words, at + 4, r.start);
-    put_u32(label_words, at + 8, r.len);
-    put_u32(label_words, at + 12, r.line);
+impl Record<4> for ExprRecord {
+    ghost fields = { expr_fields };
+
+    ghost record_at = { expr_record_at };
+
+    fn to_words(self) -> [u32; 4] {
+        [self.start, self.len, u32::from(self.one_space), self.place]
+    }
+
+    fn from_words(words: &[u32; 4]) -> ExprRecord {
+        let [start, len, one_space, place] = *words;
+        ExprRecord {
+            start,
+            len,
+            one_space: one_space == 1,
+            place,
+        }
+    }
 }
 
-pub fn get_label_word(label_words: &[u8], k: usize) -> LabelWordRecord
-    requires { k * label_word_size + label_word_size ≤ length label_words.now }
-    ensures { result ≡ label_word_record_at label_words.now k }
-{
-    let at = k * LABEL_WORD_SIZE;
-    LabelWordRecord {
-        at: get_u32(label_words, at),
-        start: get_u32(label_words, at + 4),
-        len: get_u32(label_words, at + 8),
-        line: get_u32(label_words, at + 12),
+impl Record<4> for LabelWordRecord {
+    ghost fields = { label_word_fields };
+
+    ghost record_at = { label_word_record_at };
+
+    fn to_words(self) -> [u32; 4] {
+        [self.at, self.start, self.len, self.line]
+    }
+
+    fn from_words(words: &[u32; 4]) -> LabelWordRecord {
+        let [at, start, len, line] = *words;
+        LabelWordRecord {
+            at,
+            start,
+            len,
+            line,
+        }
     }
 }

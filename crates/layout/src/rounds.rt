@@ -1,18 +1,19 @@
 // The equates' rounds: each takes the pending ones in text order, until none is pending or a round finds none.
 ghost use Rattle.layout.specs.Code.Numbers.{numbered};
-ghost use Rattle.std.specs.Prelude.{◌≡◌, ℕ, ◌+◌, ◌-◌, ◌*◌, ◌^◌, ◌≤◌, ◌<◌, length, eqb, List};
+ghost use Rattle.std.specs.Prelude.{◌≡◌, ◌≢◌, ℕ, ◌+◌, ◌-◌, ◌*◌, ◌^◌, ◌≤◌, ◌<◌, length, eqb, List};
 ghost use Rattle.layout.specs.Bytes.{put};
 ghost use Rattle.layout.specs.Limits.{equate_size};
 ghost use Rattle.layout.specs.Records.{field_bytes, equate_fields, equate_record_at};
-ghost use Rattle.layout.specs.Rounds.{constant, is_some, first_pending, Known};
-ghost use Rattle.layout.specs.Code.Steps.{Exists};
+ghost use Rattle.layout.specs.Rounds.{first_pending, Known};
 ghost use Rattle.layout.specs.Code.Names.{EquateTable};
-ghost use Rattle.layout.specs.Code.Resolves.{equate_in, TurnReady, TurnKnown, AgainReady, AgainKnown, TurnGives, EvaluationGives, partial_at, put_partial, ResolveReady, Resolves};
+ghost use Rattle.layout.specs.Code.Resolves.{equate_in, TurnReady, TurnKnown, AgainReady, AgainKnown, ExpressionOf, TurnGives, EvaluationGives, partial_at, put_partial, ResolveReady, Resolves};
 
-use crate::addresses::{Starts, is_label};
-use crate::equates::{constant, equate_name};
-use crate::expr::{Evaluated, Partial, eval_expr, sum_terms};
-use crate::records::{EquateRecord, get_equate, get_expr, put_equate};
+use crate::addresses::Starts;
+use crate::equates::Equates;
+use crate::expr::{Evaluated, Expression, Partial};
+use crate::labels::Labels;
+use crate::names::Names;
+use crate::records::{EquateRecord, ExprRecord, Record};
 use crate::refusal::{Refusal, RefusedAt};
 use numbers::ints::{bits_of_i64, i64_of_bits};
 use numbers::text::{Span, span_bytes};
@@ -24,183 +25,81 @@ pub struct Evaluation {
     pub evaluations: usize,
 }
 
-fn is_constant(text: &[u8], equates: &[u8], index: &[u16], count: usize, name: &[u8]) -> bool
-    requires { Exists (EquateTable text.now equates.now index.now count) }
-    ensures { (ks : List Known) → EquateTable text.now equates.now index.now count ks
-        → result ≡ is_some (constant ks name.now) }
-{
-    constant(text, equates, index, count, name).is_some()
+// What the equates' turns in a round read.
+#[derive(Clone, Copy)]
+struct Round<'a> {
+    number: u32,
+    names: Names<'a>,
+    starts: Starts,
+    exprs: &'a [u8],
 }
 
-// The kth equate against what is known: 14, 15, then its expression.
-pub fn turn(
-    text: &[u8],
-    labels: &[u8],
-    label_index: &[u16],
-    label_count: usize,
-    starts: Starts,
-    equates: &[u8],
-    equate_index: &[u16],
-    equate_count: usize,
-    exprs: &[u8],
-    k: usize,
-) -> Result<Evaluated, Refusal>
-    requires { TurnReady text.now labels.now label_index.now label_count starts equates.now equate_index.now equate_count exprs.now × (k < equate_count) }
-    ensures { TurnKnown text.now labels.now label_index.now label_count starts equates.now equate_index.now equate_count exprs.now
-        (λ names. TurnGives names (equate_in names k) (numbered result)) }
-{
-    let name = equate_name(text, equates, k);
-    if is_label(text, labels, label_index, label_count, name) {
-        return Err(Refusal::EquateIsLabel);
+impl<'a> Round<'a> {
+    // The kth equate's expression.
+    fn expression(self, k: usize) -> Expression<'a>
+        requires { TurnReady self × (k < self.names.equates.now.count) }
+        ensures { TurnKnown self.entry (λ scope. ExpressionOf scope (equate_in scope k) result) }
+    {
+        let expr = ExprRecord::get(self.exprs, k);
+        let source = Span {
+            start: expr.start as usize,
+            len: expr.len as usize,
+        };
+        Expression {
+            source: span_bytes(self.names.equates.text, source),
+            one_space: expr.one_space,
+            here: self.starts.address(expr.place),
+        }
     }
-    if is_constant(text, equates, equate_index, equate_count, name) {
-        return Err(Refusal::DuplicateEquate);
-    }
-    let expr = get_expr(exprs, k);
-    let source = Span {
-        start: expr.start as usize,
-        len: expr.len as usize,
-    };
-    eval_expr(
-        text,
-        labels,
-        label_index,
-        label_count,
-        equates,
-        equate_index,
-        equate_count,
-        span_bytes(text, source),
-        expr.one_space,
-        starts.address(expr.place),
-    )
-}
 
-// The same for an equate that has waited: its sum goes on from where it had come to. In its contract 2 stands for any round but the first.
-fn turn_again(
-    text: &[u8],
-    labels: &[u8],
-    label_index: &[u16],
-    label_count: usize,
-    starts: Starts,
-    equates: &[u8],
-    equate_index: &[u16],
-    equate_count: usize,
-    exprs: &[u8],
-    k: usize,
-    from: Partial,
-) -> Result<Evaluated, Refusal>
-    requires { AgainReady text.now labels.now label_index.now label_count starts equates.now equate_index.now equate_count exprs.now 2 k from × (k < equate_count) }
-    ensures { AgainKnown text.now labels.now label_index.now label_count starts equates.now equate_index.now equate_count exprs.now 2 k from
-        (λ names. TurnGives names (equate_in names k) (numbered result)) }
-{
-    let name = equate_name(text, equates, k);
-    if is_constant(text, equates, equate_index, equate_count, name) {
-        return Err(Refusal::DuplicateEquate);
+    // The kth equate against what is known: 14, 15, then its expression.
+    fn turn(self, k: usize) -> Result<Evaluated, Refusal>
+        requires { TurnReady self × (k < self.names.equates.now.count) }
+        ensures { TurnKnown self.entry (λ scope. TurnGives scope (equate_in scope k) (numbered result)) }
+    {
+        let names = self.names;
+        let name = names.equates.name(k);
+        if names.labels.contains(name) {
+            return Err(Refusal::EquateIsLabel);
+        }
+        if names.equates.is_constant(name) {
+            return Err(Refusal::DuplicateEquate);
+        }
+        self.expression(k).evaluate(names)
     }
-    let expr = get_expr(exprs, k);
-    let source = Span {
-        start: expr.start as usize,
-        len: expr.len as usize,
-    };
-    sum_terms(
-        text,
-        labels,
-        label_index,
-        label_count,
-        equates,
-        equate_index,
-        equate_count,
-        span_bytes(text, source),
-        expr.one_space,
-        starts.address(expr.place),
-        from,
-    )
-}
 
-// The kth equate's turn in a round: from the second on a pending equate has waited.
-fn turn_in(
-    text: &[u8],
-    labels: &[u8],
-    label_index: &[u16],
-    label_count: usize,
-    starts: Starts,
-    equates: &[u8],
-    equate_index: &[u16],
-    equate_count: usize,
-    exprs: &[u8],
-    k: usize,
-    from: Partial,
-    round: u32,
-) -> Result<Evaluated, Refusal>
-    requires { AgainReady text.now labels.now label_index.now label_count starts equates.now equate_index.now equate_count exprs.now round k from × (k < equate_count) }
-    ensures { AgainKnown text.now labels.now label_index.now label_count starts equates.now equate_index.now equate_count exprs.now round k from
-        (λ names. TurnGives names (equate_in names k) (numbered result)) }
-{
-    if round == 1 {
-        return turn(
-            text,
-            labels,
-            label_index,
-            label_count,
-            starts,
-            equates,
-            equate_index,
-            equate_count,
-            exprs,
-            k,
-        );
+    // The same for an equate that has waited: its sum goes on from where it had come to.
+    fn turn_again(self, k: usize, from: Partial) -> Result<Evaluated, Refusal>
+        requires { AgainReady self k from × (k < self.names.equates.now.count) × (self.number ≢ 1) }
+        ensures { AgainKnown self.entry k from (λ scope. TurnGives scope (equate_in scope k) (numbered result)) }
+    {
+        let names = self.names;
+        if names.equates.is_constant(names.equates.name(k)) {
+            return Err(Refusal::DuplicateEquate);
+        }
+        self.expression(k).sum_terms(names, from)
     }
-    turn_again(
-        text,
-        labels,
-        label_index,
-        label_count,
-        starts,
-        equates,
-        equate_index,
-        equate_count,
-        exprs,
-        k,
-        from,
-    )
-}
 
-// The one function that evaluates: the count of evaluations comes out one higher.
-fn evaluate(
-    text: &[u8],
-    labels: &[u8],
-    label_index: &[u16],
-    label_count: usize,
-    starts: Starts,
-    equates: &[u8],
-    equate_index: &[u16],
-    equate_count: usize,
-    exprs: &[u8],
-    k: usize,
-    from: Partial,
-    round: u32,
-    evaluations: usize,
-) -> Evaluation
-    requires { AgainReady text.now labels.now label_index.now label_count starts equates.now equate_index.now equate_count exprs.now round k from × (k < equate_count) × (evaluations < 2 ^ 64 - 1) }
-    ensures { AgainKnown text.now labels.now label_index.now label_count starts equates.now equate_index.now equate_count exprs.now round k from
-        (λ names. EvaluationGives names (equate_in names k) evaluations result) }
-{
-    Evaluation {
-        answer: turn_in(
-            text,
-            labels,
-            label_index,
-            label_count,
-            starts,
-            equates,
-            equate_index,
-            equate_count,
-            exprs,
-            k,
-            from,
-            round,
-        ),
-        evaluations: evaluations + 1,
+    // The kth equate's turn: from the second round on a pending equate has waited.
+    fn turn_in(self, k: usize, from: Partial) -> Result<Evaluated, Refusal>
+        requires { AgainReady self k from × (k < self.names.equates.now.count) }
+        ensures { AgainKnown self.entry k from (λ scope. TurnGives scope (equate_in scope k) (numbered result)) }
+    {
+        if self.number == 1 {
+            return self.turn(k);
+        }
+        self.turn_again(k, from)
+    }
+
+    // The one function that evaluates: the count of evaluations comes out one higher.
+    fn evaluate(self, k: usize, from: Partial, evaluations: usize) -> Evaluation
+        requires { AgainReady self k from × (k < self.names.equates.now.count) × (evaluations < 2 ^ 64 - 1) }
+        ensures { AgainKnown self.entry k from (λ scope. EvaluationGives scope (equate_in scope k) evaluations result) }
+    {
+        Evaluation {
+            answer: self.turn_in(k, from),
+            evaluations: evaluations + 1,
+        }
     }
 }
 
@@ -208,7 +107,7 @@ fn is_pending(equates: &[u8], k: usize) -> bool
     requires { k * equate_size + equate_size ≤ length equates.now }
     ensures { result ≡ eqb (equate_record_at equates.now k).round 0 }
 {
-    get_equate(equates, k).round == 0
+    EquateRecord::get(equates, k).round == 0
 }
 
 // The kth equate has its value, found in this round.
@@ -222,7 +121,7 @@ fn put_found(equates: &mut [u8], k: usize, value: i64, round: u32)
       round = round;
     }))) equates.old }
 {
-    let equate = get_equate(equates, k);
+    let equate = EquateRecord::get(equates, k);
     let found = EquateRecord {
         start: equate.start,
         len: equate.len,
@@ -230,7 +129,7 @@ fn put_found(equates: &mut [u8], k: usize, value: i64, round: u32)
         value,
         round,
     };
-    put_equate(equates, k, found);
+    found.put(equates, k);
 }
 
 // How far the kth equate's sum has come, by its row of two numbers: the sum's bits, and the place.
@@ -260,7 +159,7 @@ fn first_pending(equates: &[u8], count: usize) -> u32
     ensures { (t ix : List ℕ) (ks : List Known) → EquateTable t equates.now ix count ks → result ≡ first_pending ks }
 {
     for i in 0..count {
-        let equate = get_equate(equates, i);
+        let equate = EquateRecord::get(equates, i);
         if equate.round == 0 {
             return equate.line;
         }
@@ -269,20 +168,17 @@ fn first_pending(equates: &[u8], count: usize) -> u32
 }
 
 // Every round; the total is of the evaluations.
-pub fn resolve(
-    text: &[u8],
-    labels: &[u8],
-    label_index: &[u16],
-    label_count: usize,
+pub fn resolve<'a>(
+    labels: Labels<'a>,
     starts: Starts,
     equates: &mut [u8],
-    equate_index: &[u16],
+    equate_index: &'a [u16],
     count: usize,
-    exprs: &[u8],
+    exprs: &'a [u8],
     partials: &mut [u64],
 ) -> Result<usize, RefusedAt>
-    requires { ResolveReady text.now labels.now label_index.now label_count starts equates.old equate_index.now count exprs.now partials.old }
-    ensures { Resolves text.now labels.now label_index.now label_count starts equates equate_index.now count exprs.now partials result }
+    requires { ResolveReady labels starts equates.old equate_index.now count exprs.now partials.old }
+    ensures { Resolves labels.entry starts equates equate_index.now count exprs.now partials result }
 {
     let mut evaluations = 0;
     let mut pending = count;
@@ -292,21 +188,22 @@ pub fn resolve(
         let before = pending;
         for k in 0..count {
             if is_pending(equates, k) {
-                let turn = evaluate(
-                    text,
-                    labels,
-                    label_index,
-                    label_count,
-                    starts,
-                    equates,
-                    equate_index,
+                let known = Equates {
+                    text: labels.text,
+                    records: equates,
+                    index: equate_index,
                     count,
+                };
+                let turns = Round {
+                    number: round,
+                    names: Names {
+                        labels: &labels,
+                        equates: &known,
+                    },
+                    starts,
                     exprs,
-                    k,
-                    partial_at(partials, k),
-                    round,
-                    evaluations,
-                );
+                };
+                let turn = turns.evaluate(k, partial_at(partials, k), evaluations);
                 evaluations = turn.evaluations;
                 match turn.answer {
                     Ok(Evaluated::Value(v)) => {
@@ -317,7 +214,7 @@ pub fn resolve(
                         put_partial(partials, k, from);
                     }
                     Err(refusal) => {
-                        return Err(refusal.at(get_equate(equates, k).line));
+                        return Err(refusal.at(EquateRecord::get(equates, k).line));
                     }
                 }
             }

@@ -4,8 +4,7 @@ ghost use Rattle.numbers.specs.Text.{index_of};
 ghost use Rattle.layout.specs.Bytes.{count_before};
 ghost use Rattle.layout.specs.Code.Cuts.{is_stop, is_cut, LineCut};
 
-use numbers::ints::least;
-use numbers::text::{Span, find_far, in_sixteen, trim_span_far};
+use numbers::text::{Span, find_far, in_sixteen, leading_from, trim_span_far};
 
 // A line from its place, which contracts alone name, to its end; the statement's part of the text, and how many bytes of
 // that stand before its first `:` or `=`: all where it has neither.
@@ -21,21 +20,14 @@ pub struct Cut {
 fn is_stop(b: u8) -> bool
     ensures { result ≡ is_stop b }
 {
-    ((b == b'\n') | (b == b';')) | (b == b'#')
+    matches!(b, b'\n' | b';' | b'#')
 }
 
-// Does it end a statement, or part it? A `match` becomes one test of a bit.
+// Does it end a statement, or part it? `matches!` becomes one test of a bit.
 fn is_cut(b: u8) -> bool
     ensures { result ≡ is_cut b }
 {
-    match b {
-        b'\n' => true,
-        b';' => true,
-        b'#' => true,
-        b':' => true,
-        b'=' => true,
-        _ => false,
-    }
+    matches!(b, b'\n' | b';' | b'#' | b':' | b'=')
 }
 
 // Is one of the sixteen bytes from a place on such a byte?
@@ -63,33 +55,21 @@ fn blocks_from(text: &[u8], at: usize) -> usize
 }
 
 // The first byte from a place on that ends a statement or parts it.
+#[tactic(auto, using(crate::proofs::SpanLaws::count_leading))]
 fn cut_from(text: &[u8], at: usize) -> usize
     requires { at ≤ length text.now }
     ensures { result ≡ at + count_before is_cut (drop at text.now) }
 {
-    let mut i = blocks_from(text, at);
-    while i < text.len() {
-        if is_cut(text[i]) {
-            return i;
-        }
-        i += 1;
-    }
-    i
+    leading_from(text, blocks_from(text, at), |b| !is_cut(b))
 }
 
 // The first byte from a place on that ends a statement.
+#[tactic(auto, using(crate::proofs::SpanLaws::count_leading))]
 fn stop_from(text: &[u8], at: usize) -> usize
     requires { at ≤ length text.now }
     ensures { result ≡ at + count_before is_stop (drop at text.now) }
 {
-    let mut i = at;
-    while i < text.len() {
-        if is_stop(text[i]) {
-            return i;
-        }
-        i += 1;
-    }
-    i
+    leading_from(text, at, |b| !is_stop(b))
 }
 
 // Where the line of a statement that stops at a place ends: there, or behind a comment at its LF.
@@ -121,6 +101,6 @@ pub fn cut_line(text: &[u8], at: usize) -> Cut
         at,
         end,
         part: Span { start, len },
-        mark: least(mark - start, len),
+        mark: (mark - start).min(len),
     }
 }

@@ -5,8 +5,6 @@ ghost use Rattle.layout.specs.Limits.{text_limit};
 ghost use Rattle.layout.specs.Pieces.{lines, line_pieces};
 ghost use Rattle.layout.specs.State.{start};
 ghost use Rattle.layout.specs.Stage.{own_line, statement_step, step_line, line_stage};
-ghost use Rattle.layout.specs.Code.Kinds.{PseudoNames};
-ghost use Rattle.layout.specs.Code.Rows.{DirectiveNames};
 ghost use Rattle.layout.specs.Code.Cuts.{cut_line, LineCut};
 ghost use Rattle.layout.specs.Code.Spans.{own_at, statement_at, OwnWithin, StatementWithin, LineIn};
 ghost use Rattle.layout.specs.Code.Lent.{OwnReady, OwnSteps, RestReady, RestSteps, StageReady, StageSteps, StageStarts, StageGives};
@@ -37,7 +35,7 @@ fn own_line(
     statement: OwnStatement,
 ) -> Result<OwnCounters, Refusal>
     requires { OwnReady text.now items.old data_bytes.old label_words.old room st × LineIn text.now line
-        × OwnWithin text.now statement × PseudoNames pseudos.now }
+        × OwnWithin text.now statement }
     ensures { OwnSteps text.now items data_bytes label_words room st result
         (own_line room line (own_at text.now statement)) }
 {
@@ -81,7 +79,7 @@ fn statement_step(
     statement: Statement,
 ) -> Result<RestCounters, Refusal>
     requires { RestReady text.now equates.old exprs.old items.old data_bytes.old label_words.old room st
-        × LineIn text.now line × StatementWithin text.now statement × PseudoNames pseudos.now }
+        × LineIn text.now line × StatementWithin text.now statement }
     ensures { RestSteps text.now equates exprs items data_bytes label_words room st result
         (statement_step room line (statement_at text.now statement)) }
 {
@@ -139,8 +137,7 @@ fn step_line(
     line: u32,
 ) -> Result<Counters, Refusal>
     requires { StageReady text.now labels.old index.old equates.old exprs.old items.old data_bytes.old label_words.old room st
-        × LineIn text.now line × LineCut text.now cut
-        × DirectiveNames directives.now × PseudoNames pseudos.now }
+        × LineIn text.now line × LineCut text.now cut }
     ensures { StageSteps text.now labels index equates exprs items data_bytes label_words room st result
         (step_line room line (cut_line text.now cut)) }
 {
@@ -189,8 +186,8 @@ pub fn line_stage(
     ensures { StageGives text.now labels index equates exprs items data_bytes label_words room result
         (line_stage room 0 (line_pieces 0 (lines text.now)) start) }
 {
-    let directives = directives::NAMES;
-    let pseudos = pseudo::NAMES;
+    let directives = directives::Names::new();
+    let pseudos = pseudo::Names::new();
     let mut st = Counters::START;
     let mut at = 0;
     let mut line: u32 = 0;

@@ -65,22 +65,14 @@ impl OwnCounters {
         requires { self.items.words ≤ word_limit }
         ensures { result ≡ place_of self }
     {
-        let section = self.section;
-        let items = self.items;
-        let stored = self.stored;
-        match section {
-            Section::Text => Place {
-                section: Section::Text,
-                offset: 4 * items.words,
-            },
-            Section::Data => Place {
-                section: Section::Data,
-                offset: stored.bytes,
-            },
-            Section::Bss => Place {
-                section: Section::Bss,
-                offset: self.bss,
-            },
+        let offset = match self.section {
+            Section::Text => 4 * self.items.words,
+            Section::Data => self.stored.bytes,
+            Section::Bss => self.bss,
+        };
+        Place {
+            section: self.section,
+            offset,
         }
     }
 }
@@ -110,8 +102,7 @@ impl Place {
         requires { PlaceFits self }
         ensures { result ≡ place_code self }
     {
-        let section = self.section;
-        match section {
+        match self.section {
             Section::Text => self.offset as u32,
             Section::Data => 0x1000000 + self.offset as u32,
             Section::Bss => 0x2000000 + self.offset as u32,

@@ -4,6 +4,7 @@ ghost use Rattle.layout.specs.Code.Symbols.{SymbolsReady, SymbolsResolve};
 use crate::addresses::{Starts, place_labels};
 use crate::equates::index_equates;
 use crate::fixups::fill_label_words;
+use crate::labels::Labels;
 use crate::refusal::RefusedAt;
 use crate::rounds::resolve;
 use crate::state::Counters;
@@ -32,21 +33,16 @@ pub fn resolve_symbols(
     let count = rest.equates;
     let starts = Starts::of(base, stored.bytes);
     place_labels(labels, label_count, starts);
-    fill_label_words(
+    let placed = Labels {
         text,
-        labels,
-        label_index,
-        label_count,
-        label_words,
-        stored.label_words,
-        data_bytes,
-    )?;
+        records: labels,
+        index: label_index,
+        count: label_count,
+    };
+    fill_label_words(placed, label_words, stored.label_words, data_bytes)?;
     index_equates(text, equates, count, equate_index);
     resolve(
-        text,
-        labels,
-        label_index,
-        label_count,
+        placed,
         starts,
         equates,
         equate_index,

@@ -6,7 +6,7 @@ ghost use Rattle.layout.specs.Expressions.{is_blank, is_name_byte, is_number_byt
 ghost use Rattle.layout.specs.Code.Tokens.{numeral, sign_of, blank_in, TokenHere, TokenFrom};
 
 use numbers::imm::parse_signed_prefixed_i64;
-use numbers::text::{Span, is_digit, is_space};
+use numbers::text::{Span, is_digit, is_space, leading_from};
 
 #[derive(Clone, Copy)]
 pub enum Token {
@@ -21,27 +21,19 @@ pub enum Token {
 fn is_blank(b: u8) -> bool
     ensures { result ≡ is_blank b }
 {
-    (b == 9) | (b == b'\n') | (b == b'\r') | (b == b' ') | (b == b',')
+    matches!(b, b'\t' | b'\n' | b'\r' | b' ' | b',')
 }
 
 fn is_name_byte(b: u8) -> bool
     ensures { result ≡ is_name_byte b }
 {
-    (((b'a' <= b) & (b <= b'z')) | ((b'A' <= b) & (b <= b'Z')))
-        | ((b'0' <= b) & (b <= b'9'))
-        | (b == b'_')
-        | (b == b'.')
-        | (b == b'$')
+    b.is_ascii_alphanumeric() | (b == b'_') | (b == b'.') | (b == b'$')
 }
 
 fn is_number_byte(b: u8) -> bool
     ensures { result ≡ is_number_byte b }
 {
-    ((b'0' <= b) & (b <= b'9'))
-        | ((b'a' <= b) & (b <= b'f'))
-        | ((b'A' <= b) & (b <= b'F'))
-        | (b == b'x')
-        | (b == b'X')
+    b.is_ascii_hexdigit() | (b == b'x') | (b == b'X')
 }
 
 // What `is_blank` answers, where each run of white space may be read as one space: then bytes 11 and 12 are blanks too.
@@ -58,42 +50,7 @@ fn is_blank_in(b: u8, one_space: bool) -> bool
 pub fn skip_blanks(s: &[u8], at: usize, one_space: bool) -> usize
     ensures { result ≡ at + leading (blank_in one_space) (drop at s.now) }
 {
-    let mut i = at;
-    while i < s.len() {
-        if !is_blank_in(s[i], one_space) {
-            return i;
-        }
-        i += 1;
-    }
-    i
-}
-
-// Where the name that stands at a place ends.
-fn name_end(s: &[u8], at: usize) -> usize
-    ensures { result ≡ at + leading is_name_byte (drop at s.now) }
-{
-    let mut i = at;
-    while i < s.len() {
-        if !is_name_byte(s[i]) {
-            return i;
-        }
-        i += 1;
-    }
-    i
-}
-
-// Where the number that stands at a place ends.
-fn number_end(s: &[u8], at: usize) -> usize
-    ensures { result ≡ at + leading is_number_byte (drop at s.now) }
-{
-    let mut i = at;
-    while i < s.len() {
-        if !is_number_byte(s[i]) {
-            return i;
-        }
-        i += 1;
-    }
-    i
+    leading_from(s, at, |b| is_blank_in(b, one_space))
 }
 
 // The token of a number's bytes.
@@ -124,13 +81,13 @@ fn operand_here(s: &[u8], at: usize) -> Option<(Token, usize)>
 {
     let b = s[at];
     if is_digit(b) {
-        let end = number_end(s, at);
+        let end = leading_from(s, at, is_number_byte);
         return Some((number_token(&s[at..end]), end));
     }
     if !is_name_byte(b) {
         return Some((Token::Unreadable, at + 1));
     }
-    let end = name_end(s, at);
+    let end = leading_from(s, at, is_name_byte);
     let len = end - at;
     if (b == b'.') & (len == 1) {
         return Some((Token::Dot, end));

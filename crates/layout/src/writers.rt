@@ -6,7 +6,7 @@ ghost use Rattle.numbers.specs.Strings.{decoded};
 ghost use Rattle.numbers.specs.Code.Strings.{decoded_bytes};
 ghost use Rattle.layout.specs.Code.Texts.{text_bytes, StoredIn};
 
-use numbers::strings::char_at;
+use numbers::strings::{Char, char_at};
 
 pub fn put_bytes(dst: &mut [u8], src: &[u8])
     requires { length src.now ≤ length dst.old }
@@ -22,7 +22,7 @@ fn put_decoded(dst: &mut [u8], s: &[u8])
 {
     let mut i = 0;
     let mut n = 0;
-    while let Some((b, more)) = char_at(s, i) {
+    while let Char::Is(b, more) = char_at(s, i) {
         dst[n] = b;
         i += more + 1;
         n += 1;

@@ -3,7 +3,7 @@ use Prim.Native.Nat.{ℕ, zero, suc, ◌+◌, ◌-◌, min, ◌≤◌, ◌<◌}
 use native.Mathlib.Nat.{add-zero, not-suc-le-zero}
 use mathlib.Core.Path.{◌≡◌, refl, sym, ap, ◌∙◌}
 use mathlib.Core.List.{List, [], ◌∷◌, ◌++◌}
-use mathlib.Core.Bool.{Bool, true, false, cond, ◌&&◌, ◌||◌, true≢false, false≢true}
+use mathlib.Core.Bool.{Bool, true, false, cond, not, ◌&&◌, ◌||◌}
 use Rattle.std.proofs.Common.{Option, None, Some}
 use native.Mathlib.Omega.{arith}
 use native.Mathlib.Numerals.{add-one}
@@ -37,30 +37,19 @@ plain_on s at i h k =
 pub plain-within : (s : List ℕ) (at : ℕ) → at ≤ length s → at + plain_len (drop at s) ≤ length s
 plain-within s at h = omega (arith, index_within 34 (drop at s), length-drop at s)
 
--- by the byte at a place: it is one of the two, or neither; the end
-module _ (s : List ℕ) (i : ℕ) where
-  pub plain_here : i < length s → eqb (get_or s i 0) 34 || eqb (get_or s i 0) 92 ≡ true → plain_len (drop i s) ≡ 0
-  unfolding index_of
-  plain_here h e = rw (drop-cons s i 0 h) (go (eqb (get_or s i 0) 34) (eqb (get_or s i 0) 92) e)
-    where
-      go : (p q : Bool) → p || q ≡ true → min (cond p 0 (suc (index_of 34 (drop (suc i) s)))) (cond q 0 (suc (index_of 92 (drop (suc i) s)))) ≡ 0
-      go true q k = omega arith
-      go false true k = omega arith
-      go false false k = absurd (false≢true k)
+-- those before it are neither
+pub plain_leading : (s : List ℕ) → plain_len s ≡ leading (λ x. not (eqb x 34) && not (eqb x 92)) s
+unfolding leading index_of
+plain_leading [] = omega arith
+plain_leading (x ∷ xs) = go (eqb x 34) (eqb x 92) (plain_leading xs)
+  where
+    rest : ℕ
+    rest = leading (λ y. not (eqb y 34) && not (eqb y 92)) xs
 
-  pub plain_next : i < length s → eqb (get_or s i 0) 34 || eqb (get_or s i 0) 92 ≡ false → plain_len (drop i s) ≡ suc (plain_len (drop (i + 1) s))
-  unfolding index_of
-  plain_next h e = rw (add-one i, drop-cons s i 0 h) (go (eqb (get_or s i 0) 34) (eqb (get_or s i 0) 92) e)
-    where
-      go : (p q : Bool) → p || q ≡ false
-          → min (cond p 0 (suc (index_of 34 (drop (suc i) s)))) (cond q 0 (suc (index_of 92 (drop (suc i) s)))) ≡ suc (plain_len (drop (suc i) s))
-      go true q k = absurd (true≢false k)
-      go false true k = absurd (true≢false k)
-      go false false k = omega arith
-
-  pub plain_end : length s ≤ i → plain_len (drop i s) ≡ 0
-  unfolding index_of
-  plain_end h = rw (drop_of_length-le s h) refl
+    go : (p q : Bool) → plain_len xs ≡ rest → min (cond p 0 (suc (index_of 34 xs))) (cond q 0 (suc (index_of 92 xs))) ≡ cond (not p && not q) (suc rest) 0
+    go true q ih = omega arith
+    go false true ih = omega arith
+    go false false ih = omega (arith, ih)
 
 -- is it among the first n bytes?
 pub plain_below : (n : ℕ) (s : List ℕ) → ltb (index_of 34 s) n || ltb (index_of 92 s) n ≡ ltb (plain_len s) n

@@ -4,13 +4,21 @@ ghost use Rattle.numbers.specs.Strings.{octal_is, octal_of, simple_escape, escap
 ghost use Rattle.numbers.specs.Strings.{to_quote, nothing_beside, quoted_of};
 ghost use Rattle.numbers.specs.Code.Strings.{char_value, size_of, plain_len, quoted_from, quoted_at};
 
-use crate::text::{Span, in_sixteen, is_digit, leading_spaces};
+use crate::text::{Span, in_sixteen, is_digit, leading_from, leading_spaces};
 
 // Where the text between a string's quotes stands, and how many bytes it stands for; where these are as many as it has, they are its own.
 #[derive(Clone, Copy)]
 pub struct Quoted {
     pub part: Span,
     pub size: usize,
+}
+
+// A character of a string: the byte that it stands for, and how many bytes it takes behind its first. An enum of its own: where an
+// Option of a pair is handed over, its bytes are moved as one, and a string with escapes takes half as long again.
+#[derive(Clone, Copy)]
+pub enum Char {
+    Is(u8, usize),
+    Invalid,
 }
 
 // The byte at a place; past the end it is 0, which is no escape's byte.
@@ -23,49 +31,47 @@ fn byte_at(s: &[u8], i: usize) -> u8
     s[i]
 }
 
-fn octal(v: usize, digits: usize) -> Option<(u8, usize)>
+fn octal(v: usize, digits: usize) -> Char
     ensures { char_value result ≡ octal_is v digits }
 {
     if 255 < v {
-        return None;
+        return Char::Invalid;
     }
-    Some((v as u8, digits))
+    Char::Is(v as u8, digits)
 }
 
 // One to three digits.
-fn octal_of(s: &[u8]) -> Option<(u8, usize)>
+fn octal_of(s: &[u8]) -> Char
     ensures { char_value result ≡ octal_of s.now }
 {
     let mut v: usize = 0;
-    let mut n = 0;
-    while n < 3 {
+    for n in 0..3 {
         let b = byte_at(s, n);
         if !is_digit(b) {
             return octal(v, n);
         }
         v = v * 8 + (b - b'0') as usize;
-        n += 1;
     }
-    octal(v, n)
+    octal(v, 3)
 }
 
-fn simple_escape(e: u8) -> Option<(u8, usize)>
+fn simple_escape(e: u8) -> Char
     ensures { char_value result ≡ simple_escape e }
 {
     match e {
-        b'b' => Some((8, 1)),
-        b'f' => Some((12, 1)),
-        b'n' => Some((10, 1)),
-        b'r' => Some((13, 1)),
-        b't' => Some((9, 1)),
-        b'\\' => Some((b'\\', 1)),
-        b'"' => Some((b'"', 1)),
-        _ => None,
+        b'b' => Char::Is(8, 1),
+        b'f' => Char::Is(12, 1),
+        b'n' => Char::Is(10, 1),
+        b'r' => Char::Is(13, 1),
+        b't' => Char::Is(9, 1),
+        b'\\' => Char::Is(b'\\', 1),
+        b'"' => Char::Is(b'"', 1),
+        _ => Char::Invalid,
     }
 }
 
 // An escape, by what stands behind its backslash.
-fn escape_of(s: &[u8]) -> Option<(u8, usize)>
+fn escape_of(s: &[u8]) -> Char
     ensures { char_value result ≡ escape_of s.now }
 {
     let b = byte_at(s, 0);
@@ -76,17 +82,17 @@ fn escape_of(s: &[u8]) -> Option<(u8, usize)>
 }
 
 // The character at a place; there is none at the end or past it.
-pub fn char_at(s: &[u8], at: usize) -> Option<(u8, usize)>
+pub fn char_at(s: &[u8], at: usize) -> Char
     ensures { char_value result ≡ char_of (drop at s.now) }
 {
     if s.len() <= at {
-        return None;
+        return Char::Invalid;
     }
     let b = s[at];
     if b == b'\\' {
         return escape_of(&s[at + 1..]);
     }
-    Some((b, 0))
+    Char::Is(b, 0)
 }
 
 // How many bytes the text between two quotes stands for.
@@ -97,11 +103,11 @@ fn decoded_len(s: &[u8]) -> Option<usize>
     let mut n = 0;
     while i < s.len() {
         match char_at(s, i) {
-            Some((_, more)) => {
+            Char::Is(_, more) => {
                 i += more + 1;
                 n += 1;
             }
-            None => {
+            Char::Invalid => {
                 return None;
             }
         }
@@ -124,21 +130,12 @@ fn mark_blocks(s: &[u8], at: usize) -> usize
     i
 }
 
-// The first quote or backslash from a place on, or the end. By a place and not by `leading_far`: behind an escape few bytes are passed,
-// and that took a tenth more instructions on strings of escapes.
+// The first quote or backslash from a place on, or the end.
 fn mark_from(s: &[u8], at: usize) -> usize
     requires { at ≤ length s.now }
     ensures { result ≡ at + plain_len (drop at s.now) }
 {
-    let mut i = mark_blocks(s, at);
-    while i < s.len() {
-        let b = s[i];
-        if (b == b'"') | (b == b'\\') {
-            return i;
-        }
-        i += 1;
-    }
-    i
+    leading_from(s, mark_blocks(s, at), |b| (b != b'"') & (b != b'\\'))
 }
 
 // The next unescaped quote from a place on where a quote, a backslash or the end is, or the end: a backslash escapes the byte behind it.

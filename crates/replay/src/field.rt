@@ -14,6 +14,7 @@ struct Written {
 }
 
 // The place of the first b, or the length: an end that a part of s can have.
+#[tactic(auto, using(numbers::proofs::Places::index_within))]
 pub fn end_at(s: &[u8], b: u8) -> usize
     ensures { (result ≡ index_of b s.now) × (result ≤ length s.now) }
 {

@@ -1,6 +1,7 @@
 -- The items' words: what emitting them asks of the buffers, and what it leaves.
 use Rattle.std.specs.Prelude.{ℕ, ◌≤◌, ◌≡◌, List, [], length, replicate}
 use Rattle.std.specs.Prelude.{Result}
+use Rattle.layout.specs.declared.names.Names.{Names}
 use Rattle.layout.specs.declared.addresses.Starts.{Starts}
 use Rattle.layout.specs.declared.limits.Room.{Room}
 use Rattle.layout.specs.Refusals.{Refusal}
@@ -18,11 +19,11 @@ use Rattle.layout.specs.declared.refusal.RefusedAt.{RefusedAt}
 use Rattle.layout.specs.Code.Numbers.{numbered_at}
 
 -- names, where the sections start, the items as the lines left them, and words of zeros with room for what they reserve
-pub record Unemitted (t l n : List ℕ) (c : ℕ) (e x : List ℕ) (m : ℕ) (starts : Starts) (i : List ℕ) (count : ℕ) (w : List ℕ) : Type 0 where
+pub record Unemitted (t l n : List ℕ) (c : ℕ) (u e x : List ℕ) (m : ℕ) (starts : Starts) (i : List ℕ) (count : ℕ) (w : List ℕ) : Type 0 where
   pub scope : Scope
   pub room : Room
   pub reserved : ℕ
-  pub names : NamesStand t l n c e x m scope
+  pub names : NamesStand t l n c u e x m scope
   pub starting : StartsAt starts scope.base scope.state
   pub items : ItemsStand t room (record { items = count; words = reserved }) i scope.state.rest.own.items
   pub zeros : w ≡ replicate (length w) 0
@@ -39,10 +40,13 @@ pub record EmitLeft (i w : List ℕ) (n : ℕ) (y : Emitted) : Type 0 where
   pub items : i ≡ table_of (length i) item_row y.items
 
 -- what is lent is to be emitted, and what it then has
-abbrev pub EmitReady : List ℕ → List ℕ → List ℕ → ℕ → List ℕ → List ℕ → ℕ → Starts → List ℕ → ℕ → List ℕ → Type 0
-EmitReady t l n c e x m starts i count w = Unemitted t l n c e x m starts i count w
+abbrev pub EmitReady : Names → Starts → List ℕ → ℕ → List ℕ → Type 0
+EmitReady n =
+    let l = n.labels.now in
+    let e = n.equates.now in
+    Unemitted l.text.now l.records.now l.index.now l.count e.text.now e.records.now e.index.now e.count
 
-abbrev pub Emits : List ℕ → List ℕ → List ℕ → ℕ → List ℕ → List ℕ → ℕ → Starts → OverCall → ℕ → OverCall → Result ℕ RefusedAt → Type 0
-Emits t l n c e x m starts i count w r =
-    (u : EmitReady t l n c e x m starts i.entry.now count w.entry.now)
+abbrev pub Emits : Names → Starts → OverCall → ℕ → OverCall → Result ℕ RefusedAt → Type 0
+Emits n starts i count w r =
+    (u : EmitReady n starts i.entry.now count w.entry.now)
     → Agrees (EmitLeft i.exit.now w.exit.now) (numbered_at r) (emitted_in u.scope)

@@ -13,10 +13,10 @@ use Rattle.layout.specs.declared.expansions.Arguments.{Arguments}
 use Rattle.layout.specs.declared.expansions.Arguments.TheVariants as arguments
 use Rattle.layout.specs.Pseudos.{reserved_words, item_kind}
 use Rattle.layout.specs.Addresses.{label_address}
-use Rattle.layout.specs.Rounds.{Known, constant}
+use Rattle.layout.specs.Rounds.{constant}
 use Rattle.layout.specs.Expansions as expansions
 use Rattle.layout.specs.Layouts.{emission}
-use Rattle.layout.specs.Code.Names.{EquateTable, Scope}
+use Rattle.layout.specs.Code.Names.{Scope}
 use Rattle.layout.specs.declared.refusal.Refusal as code
 use Rattle.layout.specs.Code.Numbers.{numbered}
 use Rattle.numbers.specs.Results.{mapped}
@@ -43,10 +43,6 @@ arguments_of (arguments.Single rd z) = expansions.single rd.0 z
 -- the same, or a refusal's number
 abbrev pub looked_up_as : Result Arguments code.Refusal → Result expansions.Arguments ℕ
 looked_up_as r = mapped arguments_of (numbered r)
-
--- P holds of whatever equates these are
-abbrev pub WhereKnown : List ℕ → List ℕ → List ℕ → ℕ → (List Known → Type 0) → Type 0
-WhereKnown t e x m P = (ks : List Known) → EquateTable t e x m ks → P ks
 
 -- what a pseudo's operands come to, and what an item emits, by the names in a scope
 abbrev pub looked_up_in : Scope → expansions.Wanted → Result expansions.Arguments ℕ

@@ -3,12 +3,9 @@ use Rattle.std.specs.Prelude.{Ok, Err}
 use Rattle.std.specs.Prelude.{Result}
 use Rattle.std.specs.Prelude.{ℕ, List, [], ◌∷◌, map, Bool, cond, ◌||◌}
 use Rattle.std.specs.Prelude.{Option, None, Some}
-use Rattle.numbers.specs.declared.text.Span.{Span}
 use Rattle.numbers.specs.Text.{text, starts_with}
 use Rattle.numbers.specs.Code.Tables.{row_of, slot_of, TableOf}
 use Rattle.layout.specs.declared.pseudo.Pseudo.{Pseudo}
-use Rattle.layout.specs.declared.pseudo.LineKind.{LineKind}
-use Rattle.layout.specs.declared.pseudo.LineKind.TheVariants as kind
 use Rattle.layout.specs.Pseudos.{Item, ordinary, pseudo, other, Spelling, pseudo_kind, spellings}
 
 -- what a spelling names, as a number in a row: its kind as an item's record has it, and 0 for one of the four others; no spelling names an ordinary line
@@ -30,17 +27,8 @@ PseudoNames t = TableOf slot_of (map spelling_row spellings) t
 abbrev pub begins_as_pseudo : List ℕ → Bool
 begins_as_pseudo s = starts_with (text "l") s || (starts_with (text "p") s || starts_with (text "r") s)
 
--- what a line is: an item of a kind, or one of the four others, which is refused before it is laid out
-abbrev pub text_line_code : Item → Span → Result LineKind ℕ
-text_line_code ordinary s = Ok (kind.Instr s)
-text_line_code (pseudo p) s = Ok (kind.Pseudo p s)
-text_line_code other s = Err 21
-
--- the pseudo that a kind has, and where its source stands
-abbrev pub kind_item : LineKind → Option Pseudo
-kind_item (kind.Instr s) = None
-kind_item (kind.Pseudo p s) = Some p
-
-abbrev pub kind_source : LineKind → Span
-kind_source (kind.Instr s) = s
-kind_source (kind.Pseudo p s) = s
+-- what a line is: ordinary, a pseudo, or one of the four others, which is refused before it is laid out
+abbrev pub text_line_code : Item → Result (Option Pseudo) ℕ
+text_line_code ordinary = Ok None
+text_line_code (pseudo p) = Ok (Some p)
+text_line_code other = Err 21

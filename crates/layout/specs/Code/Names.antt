@@ -2,6 +2,8 @@
 use Rattle.std.specs.Prelude.{ℕ, ◌≤◌, ◌≡◌, List, map, true, length, ℤ, pos}
 use Rattle.std.specs.Prelude.{Option, None, Some}
 use Rattle.numbers.specs.Ints.{in64}
+use Rattle.layout.specs.declared.equates.Equates.{Equates}
+use Rattle.layout.specs.declared.names.Names.{Names}
 use Rattle.layout.specs.Limits.{text_limit, equate_limit}
 use Rattle.layout.specs.State.{State}
 use Rattle.layout.specs.Rounds.{Found, Known, look}
@@ -56,6 +58,14 @@ pub record EquateTable (t b ix : List ℕ) (count : ℕ) (ks : List Known) : Typ
   pub rows : EquateRecords t b count ks
   pub indexed : Indexed (map known_name ks) ix
 
+-- the code's equates are found some way
+abbrev pub EquatesSearchable : Equates → Type 0
+EquatesSearchable e = Exists (EquateTable e.text.now e.records.now e.index.now e.count)
+
+-- P holds of whatever equates these are
+abbrev pub WhereKnown : Equates → (List Known → Type 0) → Type 0
+WhereKnown e P = (ks : List Known) → EquateTable e.text.now e.records.now e.index.now e.count ks → P ks
+
 -- ---- equates and labels
 
 -- what names are looked up in: the base, what the lines gave, and the equates so far
@@ -67,15 +77,19 @@ pub record Scope : Type 0 where
 unfoldable pub look_in : Scope → List ℕ → Option ℤ
 look_in s n = look s.base s.state s.known n
 
-pub record NamesStand (t l n : List ℕ) (c : ℕ) (e x : List ℕ) (m : ℕ) (s : Scope) : Type 0 where
+-- labels' text, records and index, and equates'
+pub record NamesStand (t l n : List ℕ) (c : ℕ) (u e x : List ℕ) (m : ℕ) (s : Scope) : Type 0 where
   pub labels : LabelsPlaced t s.base s.state c (label_store l n)
-  pub equates : EquateTable t e x m s.known
+  pub equates : EquateTable u e x m s.known
 
--- what is lent stands for something: labels' records and index, equates' records and index
-abbrev pub NamesReady : List ℕ → List ℕ → List ℕ → ℕ → List ℕ → List ℕ → ℕ → Type 0
-NamesReady t l n c e x m = Exists (NamesStand t l n c e x m)
+-- the code's names stand for these
+abbrev pub StandFor : Names → Scope → Type 0
+StandFor n = NamesStand n.labels.now.text.now n.labels.now.records.now n.labels.now.index.now n.labels.now.count n.equates.now.text.now n.equates.now.records.now n.equates.now.index.now n.equates.now.count
 
--- P holds of whatever it stands for
-abbrev pub NamesKnown : List ℕ → List ℕ → List ℕ → ℕ → List ℕ → List ℕ → ℕ → (Scope → Type 0) → Type 0
-NamesKnown t l n c e x m P =
-    (s : Scope) → NamesStand t l n c e x m s → P s
+-- they stand for something
+abbrev pub NamesReady : Names → Type 0
+NamesReady n = Exists (StandFor n)
+
+-- P holds of whatever they stand for
+abbrev pub NamesKnown : Names → (Scope → Type 0) → Type 0
+NamesKnown n P = (s : Scope) → StandFor n s → P s

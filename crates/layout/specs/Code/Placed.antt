@@ -2,6 +2,7 @@
 use Rattle.std.specs.Prelude.{Result}
 use Rattle.std.specs.Prelude.{ℕ, ◌≤◌, ◌≡◌, List, map, length}
 use Rattle.layout.specs.declared.limits.Room.{Room}
+use Rattle.layout.specs.declared.labels.Labels.{Labels}
 use Rattle.layout.specs.declared.addresses.Starts.{Starts}
 use Rattle.layout.specs.declared.state.Section.TheVariants as section
 use Rattle.layout.specs.declared.state.Place.{Place}
@@ -60,9 +61,9 @@ Places l count s =
     (u : Unplaced l.entry.now count s) → LabelsPlaced u.text u.base u.state count (label_store l.exit.now u.index)
 
 -- P holds of every base and state whose labels these are, with their addresses
-abbrev pub WherePlaced : List ℕ → List ℕ → List ℕ → ℕ → (ℕ → State → Type 0) → Type 0
-WherePlaced t l n count P =
-    (base : ℕ) (σ : State) → LabelsPlaced t base σ count (label_store l n) → P base σ
+abbrev pub WherePlaced : Labels → (ℕ → State → Type 0) → Type 0
+WherePlaced l P =
+    (base : ℕ) (σ : State) → LabelsPlaced l.text.now base σ l.count (label_store l.records.now l.index.now) → P base σ
 
 -- ---- label words
 
@@ -81,11 +82,11 @@ pub record FillLeft (words : ℕ) (d : List ℕ) (n : ℕ) (bytes : List ℕ) : 
   pub stored : d ≡ padded (length d) bytes
 
 -- what is lent is to be filled, and what it then has
-abbrev pub FillReady : List ℕ → List ℕ → List ℕ → ℕ → List ℕ → ℕ → List ℕ → Type 0
-FillReady t l n count w words d = Unfilled t l n count w words d
+abbrev pub FillReady : Labels → List ℕ → ℕ → List ℕ → Type 0
+FillReady l w words d = Unfilled l.text.now l.records.now l.index.now l.count w words d
 
-abbrev pub Fills : List ℕ → List ℕ → List ℕ → ℕ → List ℕ → ℕ → OverCall → Result ℕ RefusedAt → Type 0
-Fills t l n count w words d r =
-    (u : FillReady t l n count w words d.entry.now)
+abbrev pub Fills : Labels → List ℕ → ℕ → OverCall → Result ℕ RefusedAt → Type 0
+Fills l w words d r =
+    (u : FillReady l w words d.entry.now)
     → Agrees (FillLeft words d.exit.now) (numbered_at r)
     (fill (label_address u.base u.state) u.state.rest.own.stored.label_words u.state.rest.own.stored.bytes)

@@ -5,10 +5,13 @@ use Rattle.std.specs.Prelude.{ℕ, ◌+◌, ◌*◌, ◌≤◌, ◌≡◌, List,
 use Rattle.std.specs.Prelude.{None}
 use Rattle.numbers.specs.Ints.{bits, signed_of}
 use Rattle.layout.specs.declared.addresses.Starts.{Starts}
+use Rattle.layout.specs.declared.expr.Expression.{Expression}
 use Rattle.layout.specs.declared.expr.Partial.{Partial}
 use Rattle.layout.specs.declared.expr.Evaluated as answer
 use Rattle.layout.specs.declared.expr.Evaluated.TheVariants.{Value, Waits}
 use Rattle.layout.specs.declared.rounds.Evaluation.{Evaluation}
+use Rattle.layout.specs.declared.rounds.Round.{Round}
+use Rattle.layout.specs.declared.labels.Labels.{Labels}
 use Rattle.layout.specs.declared.state.Section.TheVariants as section
 use Rattle.layout.specs.Pieces.{piece}
 use Rattle.layout.specs.State.{Equate, State}
@@ -32,8 +35,8 @@ abbrev pub known_expr : Known → List RecordField
 known_expr k = expr_so_far k.equate
 
 -- names, the sections' starts, and the equates' expressions
-pub record TurnStand (t l n : List ℕ) (c : ℕ) (starts : Starts) (e x : List ℕ) (m : ℕ) (exprs : List ℕ) (s : Scope) : Type 0 where
-  pub names : NamesStand t l n c e x m s
+pub record TurnStand (t l n : List ℕ) (c : ℕ) (starts : Starts) (u e x : List ℕ) (m : ℕ) (exprs : List ℕ) (s : Scope) : Type 0 where
+  pub names : NamesStand t l n c u e x m s
   pub starting : StartsAt starts s.base s.state
   pub records : exprs ≡ table_of (length exprs) known_expr s.known
 
@@ -55,6 +58,12 @@ known_at ks k = get_or ks k no_known
 
 abbrev pub equate_in : Scope → ℕ → Equate
 equate_in s k = (known_at s.known k).equate
+
+-- what is read of an equate's expression
+pub record ExpressionOf (s : Scope) (e : Equate) (x : Expression) : Type 0 where
+  pub source : x.source.now ≡ e.expr.source.bytes
+  pub one_space : x.one_space ≡ e.expr.one_space
+  pub here : x.here ≡ address_at s.base s.state e.place
 
 -- an equate, named as no label, has waited: while it has no value by another equate of its name, its turn is what the sum comes to from there on, whatever
 -- other names get values
@@ -82,29 +91,35 @@ pub record TurnGives (s : Scope) (e : Equate) (r : Result answer.Evaluated ℕ) 
 abbrev pub HasWaited : ℕ → Scope → Equate → Partial → Type 0
 HasWaited round s e p = (round ≡ 1 → ⊥) → Blocked s e p
 
-pub record TurnAgain (t l n : List ℕ) (c : ℕ) (starts : Starts) (e x : List ℕ) (m : ℕ) (exprs : List ℕ) (round k : ℕ) (p : Partial) (s : Scope) : Type 0 where
-  pub stand : TurnStand t l n c starts e x m exprs s
+pub record TurnAgain (t l n : List ℕ) (c : ℕ) (starts : Starts) (u e x : List ℕ) (m : ℕ) (exprs : List ℕ) (round k : ℕ) (p : Partial) (s : Scope) : Type 0 where
+  pub stand : TurnStand t l n c starts u e x m exprs s
   pub waited : HasWaited round s (equate_in s k) p
 
--- ---- said of the references lent
+-- ---- said of the code's round
 
-abbrev pub TurnReady : List ℕ → List ℕ → List ℕ → ℕ → Starts → List ℕ → List ℕ → ℕ → List ℕ → Type 0
-TurnReady t l n c starts e x m exprs = Exists (TurnStand t l n c starts e x m exprs)
+abbrev pub TurnsFor : Round → Scope → Type 0
+TurnsFor r =
+    let l = r.names.labels.now in
+    let e = r.names.equates.now in
+    TurnStand l.text.now l.records.now l.index.now l.count r.starts e.text.now e.records.now e.index.now e.count r.exprs.now
 
-abbrev pub TurnKnown : List ℕ → List ℕ → List ℕ → ℕ → Starts → List ℕ → List ℕ → ℕ → List ℕ → (Scope → Type 0) → Type 0
-TurnKnown t l n c starts e x m exprs P =
-    (s : Scope) → TurnStand t l n c starts e x m exprs s
-    → P s
+abbrev pub TurnReady : Round → Type 0
+TurnReady r = Exists (TurnsFor r)
 
-abbrev pub AgainReady : List ℕ → List ℕ → List ℕ → ℕ → Starts → List ℕ → List ℕ → ℕ → List ℕ → ℕ → ℕ → Partial → Type 0
-AgainReady t l n c starts e x m exprs round k p =
-    Exists (TurnAgain t l n c starts e x m exprs round k p)
+abbrev pub TurnKnown : Round → (Scope → Type 0) → Type 0
+TurnKnown r P = (s : Scope) → TurnsFor r s → P s
 
-abbrev pub AgainKnown : List ℕ → List ℕ → List ℕ → ℕ → Starts → List ℕ → List ℕ → ℕ → List ℕ → ℕ → ℕ → Partial → (Scope → Type 0)
-    → Type 0
-AgainKnown t l n c starts e x m exprs round k p P =
-    (s : Scope) → TurnAgain t l n c starts e x m
-    exprs round k p s → P s
+abbrev pub AgainFor : Round → ℕ → Partial → Scope → Type 0
+AgainFor r =
+    let l = r.names.labels.now in
+    let e = r.names.equates.now in
+    TurnAgain l.text.now l.records.now l.index.now l.count r.starts e.text.now e.records.now e.index.now e.count r.exprs.now r.number
+
+abbrev pub AgainReady : Round → ℕ → Partial → Type 0
+AgainReady r k p = Exists (AgainFor r k p)
+
+abbrev pub AgainKnown : Round → ℕ → Partial → (Scope → Type 0) → Type 0
+AgainKnown r k p P = (s : Scope) → AgainFor r k p s → P s
 
 -- an evaluation: the turn, and one evaluation more
 pub record EvaluationGives (s : Scope) (e : Equate) (evaluations : ℕ) (r : Evaluation) : Type 0 where
@@ -127,20 +142,24 @@ abbrev pub pending_scope : ℕ → State → Scope
 pending_scope base σ = record { base = base; state = σ; known = map pending_equate σ.rest.equates }
 
 pub record RoundsStand (t l n : List ℕ) (c : ℕ) (starts : Starts) (e x : List ℕ) (m : ℕ) (exprs partials : List ℕ) (base : ℕ) (σ : State) : Type 0 where
-  pub stand : TurnStand t l n c starts e x m exprs (pending_scope base σ)
+  pub stand : TurnStand t l n c starts t e x m exprs (pending_scope base σ)
   pub room : m * 2 ≤ length partials
 
-pub record ResolveReady (t l n : List ℕ) (c : ℕ) (starts : Starts) (e x : List ℕ) (m : ℕ) (exprs partials : List ℕ) : Type 0 where
+-- the same said of the code's labels
+abbrev pub RoundsFor : Labels → Starts → List ℕ → List ℕ → ℕ → List ℕ → List ℕ → ℕ → State → Type 0
+RoundsFor l = RoundsStand l.text.now l.records.now l.index.now l.count
+
+pub record ResolveReady (l : Labels) (starts : Starts) (e x : List ℕ) (m : ℕ) (exprs partials : List ℕ) : Type 0 where
   pub base : ℕ
   pub state : State
-  pub stands : RoundsStand t l n c starts e x m exprs partials base state
+  pub stands : RoundsFor l starts e x m exprs partials base state
 
 -- the equates are what the rounds leave, by so many evaluations
 pub record ResolveLeft (t e x : List ℕ) (m n : ℕ) (y : Turns) : Type 0 where
   pub evaluations : n ≡ y.evaluations
   pub equates : EquateTable t e x m y.known
 
-abbrev pub Resolves : List ℕ → List ℕ → List ℕ → ℕ → Starts → OverCall → List ℕ → ℕ → List ℕ → OverCall → Result ℕ RefusedAt → Type 0
-Resolves t l n c starts e x m exprs partials r =
-    (s : ResolveReady t l n c starts e.entry.now x m exprs partials.entry.now)
-    → Agrees (ResolveLeft t e.exit.now x m) (numbered_at r) (resolve s.base s.state s.state.rest.equates)
+abbrev pub Resolves : Labels → Starts → OverCall → List ℕ → ℕ → List ℕ → OverCall → Result ℕ RefusedAt → Type 0
+Resolves l starts e x m exprs partials r =
+    (s : ResolveReady l starts e.entry.now x m exprs partials.entry.now)
+    → Agrees (ResolveLeft l.text.now e.exit.now x m) (numbered_at r) (resolve s.base s.state s.state.rest.equates)

@@ -1,13 +1,19 @@
 -- The layout's own records, and how names are looked up in the labels' records.
-use Rattle.std.specs.Prelude.{ℕ, zero, suc, ◌+◌, ◌*◌, ◌≤◌, ◌<◌, ◌≡◌, List, [], ◌∷◌, Bool, true, false, eqb, length}
+use Rattle.std.specs.Prelude.{ℕ, zero, suc, ◌+◌, ◌*◌, ◌≤◌, ◌<◌, ◌≡◌, List, [], ◌∷◌, ◌++◌, Bool, true, false, eqb, length}
 use Rattle.std.specs.Prelude.{Option, None, Some}
 use Rattle.numbers.specs.Text.{same}
 use Rattle.numbers.specs.Code.Spans.{spanned}
 use Rattle.layout.specs.declared.records.ExprRecord.{ExprRecord}
 use Rattle.layout.specs.declared.records.LabelWordRecord.{LabelWordRecord}
+use Rattle.layout.specs.declared.labels.Labels.{Labels}
 use Rattle.layout.specs.Limits.{label_size, equate_limit, label_word_limit}
 use Rattle.layout.specs.Records.{RecordField, four, four_at, label_record_at, equate_record_at}
 use Rattle.layout.specs.Code.Index.{Indexed, Distinct}
+
+-- so many numbers of four bytes, from a place on
+abbrev pub words_at : ℕ → List ℕ → ℕ → List ℕ
+words_at zero b at = []
+words_at (suc n) b at = words_at n b at ++ four_at b (at + 4 * n) ∷ []
 
 -- ---- an equate's expression, and a label word: 16 bytes each
 
@@ -81,9 +87,13 @@ pub record LabelsIndexed (t b ix : List ℕ) (count : ℕ) : Type 0 where
   pub indexed : Indexed (label_names t b 0 count) ix
   pub distinct : Distinct (label_names t b 0 count)
 
+-- the same said of the code's labels
+abbrev pub LabelsSearchable : Labels → Type 0
+LabelsSearchable l = LabelsIndexed l.text.now l.records.now l.index.now l.count
+
 -- what was found is what a search in order finds
-abbrev pub LooksUp : List ℕ → List ℕ → ℕ → List ℕ → Option ℕ → Type 0
-LooksUp t b count n r = (r ≡ lookup_in n 0 (label_names t b 0 count)) × LookupBelow count r
+abbrev pub LooksUp : Labels → List ℕ → Option ℕ → Type 0
+LooksUp l n r = (r ≡ lookup_in n 0 (label_names l.text.now l.records.now 0 l.count)) × LookupBelow l.count r
 
 -- ---- equates by name
 

@@ -1,10 +1,11 @@
 -- Expressions term by term: what stands before a term, its value, what joins the next one, and how far a sum has come.
 use Rattle.std.specs.Prelude.{Result}
-use Rattle.std.specs.Prelude.{ℕ, zero, suc, ◌≤◌, ◌<◌, ◌≡◌, List, [], ◌∷◌, Bool, true, false, not, length, ℤ}
+use Rattle.std.specs.Prelude.{ℕ, zero, suc, ◌≤◌, ◌<◌, ◌≡◌, List, [], ◌∷◌, Bool, true, false, not, length, ℤ, pos}
 use Rattle.std.specs.Prelude.{Option, None, Some}
 use Rattle.std.specs.Prelude.{Ok, Err}
 use Rattle.layout.specs.declared.tokens.Token as code
 use Rattle.layout.specs.declared.tokens.Token.TheVariants as kind
+use Rattle.layout.specs.declared.expr.Expression.{Expression}
 use Rattle.layout.specs.declared.expr.Partial.{Partial}
 use Rattle.layout.specs.declared.expr.Evaluated as answer
 use Rattle.layout.specs.declared.expr.Evaluated.TheVariants.{Value, Waits}
@@ -166,3 +167,15 @@ Waiting look one_space s here f (Err n) = Unit
 pub record Evaluates (look : List ℕ → Option ℤ) (one_space : Bool) (s : List ℕ) (here : ℤ) (f : (List ℕ → Option ℤ) → Evaluated) (r : Result answer.Evaluated ℕ) : Type 0 where
   pub answers : evaluated_of r ≡ f look
   pub waiting : Waiting look one_space s here f r
+
+-- ---- said of the code's expression
+
+-- its sum, from where that has come to, its evaluation, and an answer to either
+abbrev pub sum_after : Expression → Partial → (List ℕ → Option ℤ) → Evaluated
+sum_after x p = sum_on x.one_space x.source.now (pos x.here) p
+
+abbrev pub evaluation : Expression → (List ℕ → Option ℤ) → Evaluated
+evaluation x = evaluation_of x.one_space x.source.now (pos x.here)
+
+abbrev pub EvaluatesAs : (List ℕ → Option ℤ) → Expression → ((List ℕ → Option ℤ) → Evaluated) → Result answer.Evaluated ℕ → Type 0
+EvaluatesAs look x f r = Evaluates look x.one_space x.source.now (pos x.here) f r

@@ -1,14 +1,17 @@
 -- What the code answers for a string: where its text stands, and how many bytes that stands for.
 use Rattle.std.specs.Prelude.{ℕ, ◌+◌, min, List, [], false, length, drop}
-use Rattle.std.specs.Prelude.{Option, None, Some, option_map}
+use Rattle.std.specs.Prelude.{Option, None, Some}
 use Rattle.numbers.specs.Text.{byte, index_of, leading_spaces}
 use Rattle.numbers.specs.Strings.{Char, char, decoded, to_quote, string_bytes}
 use Rattle.numbers.specs.declared.text.Span.{Span}
 use Rattle.numbers.specs.declared.strings.Quoted.{Quoted}
+use Rattle.numbers.specs.declared.strings.Char as code
+use Rattle.numbers.specs.declared.strings.Char.TheVariants as character
 
 -- the byte that a character stands for, and how many bytes it takes behind its first
-abbrev pub char_value : Option (ℕ × ℕ) → Option Char
-char_value = option_map (λ (c : ℕ × ℕ). char c.0 c.1)
+abbrev pub char_value : code.Char → Option Char
+char_value (character.Is b n) = Some (char b n)
+char_value character.Invalid = None
 
 -- how many bytes an answer has
 abbrev pub size_of : Option (List ℕ) → Option ℕ

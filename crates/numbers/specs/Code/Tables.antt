@@ -1,5 +1,5 @@
 -- Tables of names, as the code compares them: by a number for each name; by rows of 16 bytes, which stand slot by slot.
-use Rattle.std.specs.Prelude.{ℕ, zero, suc, ◌+◌, ◌-◌, ◌*◌, ◌%◌, ◌≡◌, List, [], ◌∷◌, ◌++◌, Bool, true, false, cond, not, ◌&&◌, eqb, ltb, length, take, drop, get_or, replicate}
+use Rattle.std.specs.Prelude.{ℕ, zero, suc, ◌+◌, ◌-◌, ◌*◌, ◌%◌, ◌≡◌, ◌≤◌, ◌<◌, List, [], ◌∷◌, ◌++◌, Bool, true, false, cond, not, ◌&&◌, eqb, ltb, length, take, drop, get_or, replicate}
 use Rattle.std.specs.Prelude.{Option, None, Some, option_map}
 use Rattle.numbers.specs.Text.{byte}
 
@@ -99,6 +99,14 @@ first test (x ∷ xs) = cond (test x) (Some x) (first test xs)
 -- the row that is found in a table
 abbrev pub found_row : List ℕ → Option ℕ → Option (List ℕ)
 found_row t = option_map (λ at. take 16 (drop at t))
+
+-- a test holds of rows of one slot only
+abbrev pub OnlyIn : (List ℕ → ℕ) → ℕ → (List ℕ → Bool) → Type 0
+OnlyIn slot k test = (x : List ℕ) → slot (row_name x) < 64 → test x ≡ true → slot (row_name x) ≡ k
+
+-- what each call at a row's place in a table answers is what the test gives of the row
+abbrev pub TestsRows : (ℕ → Bool → Type 0) → List ℕ → (List ℕ → Bool) → Type 0
+TestsRows post t test = (at : ℕ) (b : Bool) → at + 16 ≤ length t → post at b → b ≡ test (take 16 (drop at t))
 
 -- an answer is the first row that a test holds of, whatever rows the table is of
 abbrev pub Finds : (List ℕ → ℕ) → (List ℕ → Bool) → List ℕ → Option ℕ → Type 0

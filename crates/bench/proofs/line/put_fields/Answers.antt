@@ -5,17 +5,17 @@ use Rattle.bench.proofs.WriteLaws.{part_within}
 use Rattle.bench.proofs.FieldLaws.{filled_none, filled_more, filled_end}
 use Rattle.bench.proofs.line.put_fields.Goals as goal
 
-pub loop-i-init : goal.loop-i-init
-loop-i-init c = filled_none _ _ c.requires
+pub loop-n-init : goal.loop-n-init
+loop-n-init c = filled_none _ _ c.requires
 
 pub put_field-at-requires : goal.put_field-at-requires
-put_field-at-requires c = omega (arith, length_mid c.loop-i.at c.loop-i.dst)
+put_field-at-requires c = omega (arith, length_mid c.loop-n.at c.loop-n.dst)
 
 pub overflow_add-at : goal.overflow_add-at
-overflow_add-at c = omega (arith, part_within _ c.loop-i.dst _ c.loop-i.at _ c.put_field-at.ensures c.put_field-at.auto.dst (omega arith))
+overflow_add-at c = omega (arith, part_within _ c.loop-n.dst _ c.loop-n.at _ c.put_field-at.ensures c.put_field-at.auto.dst (omega arith))
 
-pub loop-i-preserved : goal.loop-i-preserved
-loop-i-preserved c = filled_more _ _ _ _ c.loop-i.at c.loop-i.i _ c.loop-i.invariant (omega arith) (c.type_inv.numbers c.loop-i.i).fits c.put_field-at.ensures
+pub loop-n-preserved : goal.loop-n-preserved
+loop-n-preserved c = filled_more _ _ _ _ c.loop-n.at c.loop-n.n-index _ c.loop-n.invariant (omega arith) (c.type_inv.numbers c.loop-n.n-index).fits c.put_field-at.ensures
 
 pub returns : goal.returns
-returns c = filled_end _ _ _ _ _ c.loop-i.invariant c.loop-i-test.false
+returns c = filled_end _ _ _ _ _ c.loop-n.invariant c.loop-n-test.false

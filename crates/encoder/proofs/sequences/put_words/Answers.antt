@@ -1,6 +1,5 @@
 -- `sequences::put_words`: what is promised of all instructions holds of the first k.
-use Rattle.std.proofs.Common.{◌≡◌, Err, refl, rules, arith}
-use Rattle.encoder.specs.Encoding.{encoded}
+use Rattle.std.proofs.Common.{◌≡◌, Err, rules, arith}
 use Rattle.encoder.proofs.PutLaws.{put-none, put_more, put_stops}
 use Rattle.encoder.proofs.sequences.put_words.Goals as goal
 

@@ -5,19 +5,19 @@ use Rattle.layout.proofs.addresses.place_labels.Goals as goal
 pub loop-k-init : goal.loop-k-init
 loop-k-init c = placing_first
 
-pub get_label-label-requires : goal.get_label-label-requires
-get_label-label-requires c = record_within c.loop-k.invariant c.loop-k-test.true c.requires
+pub get-label-requires : goal.get-label-requires
+get-label-requires c = record_within c.loop-k.invariant c.loop-k-test.true c.requires
 
 pub address-requires : goal.address-requires
-address-requires c = place_back c.loop-k.invariant c.loop-k-test.true c.get_label-label.result c.get_label-label.ensures c.requires
+address-requires c = place_back c.loop-k.invariant c.loop-k-test.true c.get-label.result c.get-label.ensures c.requires
 
-pub put_label-requires : goal.put_label-requires
-put_label-requires c = record_within c.loop-k.invariant c.loop-k-test.true c.requires
+pub put-requires : goal.put-requires
+put-requires c = record_within c.loop-k.invariant c.loop-k-test.true c.requires
 
 pub loop-k-preserved : goal.loop-k-preserved
 loop-k-preserved c =
-    placing_next c.loop-k.invariant c.loop-k-test.true c.get_label-label.result c.get_label-label.ensures
-    c.address.result c.address.ensures _ c.put_label.auto.labels c.put_label.ensures
+    placing_next c.loop-k.invariant c.loop-k-test.true c.get-label.result c.get-label.ensures
+    c.address.result c.address.ensures _ c.put.auto.table c.put.ensures
 
 pub returns : goal.returns
 returns c = placing_end c.loop-k.invariant c.loop-k-test.false

@@ -10,5 +10,5 @@ returns-then-count-ge-LABEL_WORD_LIMIT c = word_many _ _ _ _ _ _ _ c.in-Address.
 
 pub returns : goal.returns
 returns c =
-    word_goes _ _ _ _ _ _ _ c.in-Address.is _ c.requires.2 c.if-count-ge-LABEL_WORD_LIMIT.false c.put_label_word.auto.label_words
-    c.put_label_word.ensures
+    word_goes _ _ _ _ _ _ _ c.in-Address.is _ c.requires.2 c.if-count-ge-LABEL_WORD_LIMIT.false c.put.auto.table
+    c.put.ensures

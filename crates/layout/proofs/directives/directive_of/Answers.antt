@@ -17,17 +17,17 @@ pub returns-then-not-first_is : goal.returns-then-not-first_is
 returns-then-not-first_is c = rw (no_row c.args.s.now (sym c.first_is.ensures ∙ c.if-not-first_is.true)) (refl, tt)
 
 -- what is found, and that it lies in the table
-found : (d : After-prefix_in) → found_row d.args.names.now d.prefix_in.result
+found : (d : After-prefix_in) → found_row d.args.names.now.rows d.prefix_in.result
     ≡ first (λ x. starts_with (row_name x) d.args.s.now) (map directive_row directives)
-found d = d.prefix_in.ensures (map directive_row directives) d.requires
+found d = d.prefix_in.ensures (map directive_row directives) d.args.names.now.named
 
-room : (d : After-prefix_in) (at : ℕ) → d.prefix_in.result ≡ Some at → at + 16 ≤ length d.args.names.now
-room d = row_room directives d.args.names.now d.args.s.now directives_small d.prefix_in.result (found d)
+room : (d : After-prefix_in) (at : ℕ) → d.prefix_in.result ≡ Some at → at + 16 ≤ length d.args.names.now.rows
+room d = row_room directives d.args.names.now.rows d.args.s.now directives_small d.prefix_in.result (found d)
 
 pub returns-in_err-at : goal.returns-in_err-at
 returns-in_err-at c =
     let a = c.args in
-    rw c.from_residual.ensures (row_past directives a.names.now a.s.now directives_small c.prefix_in.result (found (goal.at.returns-in_err-at c).After-prefix_in) c.in_err-at.was)
+    rw c.from_residual.ensures (row_past directives a.names.now.rows a.s.now directives_small c.prefix_in.result (found (goal.at.returns-in_err-at c).After-prefix_in) c.in_err-at.was)
 
 pub overflow_add-at : goal.overflow_add-at
 overflow_add-at c = omega (arith, room (goal.at.overflow_add-at c).After-prefix_in _ c.in_ok-at.was)
@@ -35,10 +35,10 @@ overflow_add-at c = omega (arith, room (goal.at.overflow_add-at c).After-prefix_
 pub bounds-names-at : goal.bounds-names-at
 bounds-names-at c = omega (arith, room (goal.at.bounds-names-at c).After-prefix_in _ c.in_ok-at.was)
 
-pub directive_numbered-requires : goal.directive_numbered-requires
-directive_numbered-requires c =
+pub numbered-requires : goal.numbered-requires
+numbered-requires c =
     let a = c.args in
-    directive_few directives a.names.now a.s.now directives_small c.prefix_in.result (found (goal.at.directive_numbered-requires c).After-prefix_in) _ c.in_ok-at.was
+    directive_few directives a.names.now.rows a.s.now directives_small c.prefix_in.result (found (goal.at.numbered-requires c).After-prefix_in) _ c.in_ok-at.was
 
 pub overflow_add-result : goal.overflow_add-result
 overflow_add-result c = omega (arith, room (goal.at.overflow_add-result c).After-prefix_in _ c.in_ok-at.was)
@@ -55,5 +55,5 @@ bounds-names-at-3 c = omega (arith, room (goal.at.bounds-names-at-3 c).After-pre
 pub returns : goal.returns
 returns c =
     let a = c.args in
-    row_here directives a.names.now a.s.now directives_small c.prefix_in.result (found (goal.at.returns c).After-prefix_in) _ c.in_ok-at.was
-    _ c.directive_numbered.ensures
+    row_here directives a.names.now.rows a.s.now directives_small c.prefix_in.result (found (goal.at.returns c).After-prefix_in) _ c.in_ok-at.was
+    _ c.numbered.ensures

@@ -11,8 +11,8 @@ use Rattle.layout.proofs.emit.emit_items.Goals as goal
 pub loop-k-init : goal.loop-k-init
 loop-k-init c = emit-first
 
-pub get_item-item-requires : goal.get_item-item-requires
-get_item-item-requires c = emit_lent c.requires c.loop-k.invariant c.loop-k-test.true
+pub get-item-requires : goal.get-item-requires
+get-item-requires c = emit_lent c.requires c.loop-k.invariant c.loop-k-test.true
 
 pub offset_bounds-words-at : goal.offset_bounds-words-at
 offset_bounds-words-at c = omega (arith, emit-low c.requires c.loop-k.invariant)
@@ -28,21 +28,21 @@ emit_item-requires c =
     let u = c.requires in
     let inv = c.loop-k.invariant in (
       record { it = u.scope; stands = u.names },
-      item_record_fits u inv c.loop-k-test.true c.get_item-item.result c.get_item-item.ensures _ (length_mid _ c.loop-k.words),
+      item_record_fits u inv c.loop-k-test.true c.get-item.result c.get-item.ensures _ (length_mid _ c.loop-k.words),
     )
 
 pub address-requires : goal.address-requires
-address-requires c = emit_coded c.requires c.loop-k.invariant c.loop-k-test.true c.get_item-item.result c.get_item-item.ensures
+address-requires c = emit_coded c.requires c.loop-k.invariant c.loop-k-test.true c.get-item.result c.get-item.ensures
 
 pub overflow_cast-emitted : goal.overflow_cast-emitted
 overflow_cast-emitted c = omega (arith, emit-low c.requires c.loop-k.invariant)
 
-pub put_item-requires : goal.put_item-requires
-put_item-requires c = emit_lent c.requires c.loop-k.invariant c.loop-k-test.true
+pub put-requires : goal.put-requires
+put-requires c = emit_lent c.requires c.loop-k.invariant c.loop-k-test.true
 
 pub overflow_add-at : goal.overflow_add-at
 overflow_add-at c =
-    let q : c.emit_item.result ≡ Ok c.in_ok-n.n = search rules in omega (arith, emit_more c.requires c.loop-k.invariant c.loop-k-test.true c.get_item-item.result c.get_item-item.ensures _ _ _ (rw q at c.emit_item.ensures))
+    let q : c.emit_item.result ≡ Ok c.in_ok-n.n = search rules in omega (arith, emit_more c.requires c.loop-k.invariant c.loop-k-test.true c.get-item.result c.get-item.ensures _ _ _ (rw q at c.emit_item.ensures))
 
 pub loop-k-preserved : goal.loop-k-preserved
 loop-k-preserved c =
@@ -52,15 +52,15 @@ loop-k-preserved c =
     record {
       items_sized = search rules;
       words_sized = search rules;
-      emitting = λ u. emit_goes u inv more c.get_item-item.result c.get_item-item.ensures _ _ _ (rw q at c.emit_item.ensures) refl _ c.address.ensures _ c.put_item.auto.items c.put_item.ensures;
+      emitting = λ u. emit_goes u inv more c.get-item.result c.get-item.ensures _ _ _ (rw q at c.emit_item.ensures) refl _ c.address.ensures _ c.put.auto.table c.put.ensures;
     }
 
 pub returns-in_err-n : goal.returns-in_err-n
 returns-in_err-n c =
     let e : c.from_residual.result ≡ Err c.in_err-n.field-0.0 = search rules in
-    let q = refused_there c.get_item-item.result.line (λ f d h. search rules) c.emit_item.result c.map_err.result c.in_err-n.field-0.0 c.map_err.ensures.cases c.in_err-n.was in
+    let q = refused_there c.get-item.result.line (λ f d h. search rules) c.emit_item.result c.map_err.result c.in_err-n.field-0.0 c.map_err.ensures.cases c.in_err-n.was in
     λ u. rw (e, q.1)
-    (emit_stops u c.loop-k.invariant c.loop-k-test.true c.get_item-item.result c.get_item-item.ensures c.loop-k.words c.loop-k.words _ (rw q.0 at c.emit_item.ensures) c.loop-k.items c.loop-k.words)
+    (emit_stops u c.loop-k.invariant c.loop-k-test.true c.get-item.result c.get-item.ensures c.loop-k.words c.loop-k.words _ (rw q.0 at c.emit_item.ensures) c.loop-k.items c.loop-k.words)
 
 pub returns : goal.returns
 returns c = λ u. emit_ends u c.loop-k.invariant c.loop-k-test.false

@@ -3,4 +3,4 @@ use Rattle.layout.proofs.EmitSteps.{EmitLoop}
 use Rattle.layout.proofs.emit.emit_items.Given as goal
 
 abbrev pub invariant-loop-k : goal.invariant-loop-k
-invariant-loop-k l = EmitLoop l.text l.labels l.label_index l.label_count l.equates l.equate_index l.equate_count l.starts l.initial.items l.count l.initial.words l.items l.words l.k l.at
+invariant-loop-k l = EmitLoop l.names l.starts l.initial.items l.count l.initial.words l.items l.words l.k l.at

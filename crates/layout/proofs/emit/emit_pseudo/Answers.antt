@@ -12,7 +12,7 @@ use Rattle.layout.specs.Addresses.{label_address}
 use Rattle.layout.specs.Rounds.{constant}
 use Rattle.layout.specs.Pseudos.{pseudo_operands}
 use Rattle.layout.specs.Expansions.{Wanted, wanted, Arguments, instructions}
-use Rattle.layout.specs.Code.Names.{Scope, NamesStand}
+use Rattle.layout.specs.Code.Names.{Scope, StandFor}
 use Rattle.layout.specs.Code.Expands.{wanted_as, looked_up_as, looked_up_in, emission_in}
 use Rattle.layout.proofs.EmitLaws.{emits_refused, emits_built, built_room}
 use borrow.Author.Rules.{rules}
@@ -23,8 +23,7 @@ use Rattle.layout.proofs.emit.emit_pseudo.Goals.{After-look_up}
 module _ (l : After-look_up) where
   abbrev Stand : Scope → Type 0
   Stand names =
-      NamesStand l.args.text.now l.args.labels.now l.args.label_index.now l.args.label_count
-      l.args.equates.now l.args.equate_index.now l.args.equate_count names
+      StandFor l.args.names names
 
   come : (names : Scope) → Stand names → looked_up_as l.look_up.result ≡ and_then (wanted l.args.pseudo (pseudo_operands l.args.s.now)) (looked_up_in names)
   come names stand = rw (sym l.wanted_by.ensures ∙ ap (wanted_as l.args.s.now) l.in_ok-wanted.was) (l.look_up.ensures names stand)

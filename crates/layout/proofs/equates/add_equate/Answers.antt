@@ -9,4 +9,4 @@ pub returns : goal.returns
 returns c =
     let a = c.args in
     equate_goes _ _ _ _ _ _ _ a.place a.line a.parts c.requires.1 c.requires.2.1 c.requires.3 c.requires.4 c.if-room-count.false
-    c.put_equate.ensures (rw c.code.ensures at c.put_expr.ensures)
+    c.put.ensures (rw c.code.ensures at c.put-2.ensures)

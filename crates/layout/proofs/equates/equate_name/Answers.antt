@@ -3,4 +3,4 @@ use mathlib.Core.Path.{refl}
 use Rattle.layout.proofs.equates.equate_name.Goals as goal
 
 pub returns : goal.returns
-returns c = rw (c.span_bytes.ensures, c.get_equate-equate.ensures) refl
+returns c = rw (c.span_bytes.ensures, c.get-equate.ensures) refl

@@ -8,4 +8,4 @@ pub returns-then-word_len-operand : goal.returns-then-word_len-operand
 returns-then-word_len-operand c =
     let a = c.args in
     let word = sym c.word_len.ensures ∙ c.if-word_len-operand.true in
-    λ base σ placed. rw (spaced_plain a.operand.now (no_space a.operand.now word)) (c.label_address.ensures base σ placed)
+    λ base σ placed. rw (spaced_plain a.operand.now (no_space a.operand.now word)) (c.address.ensures base σ placed)

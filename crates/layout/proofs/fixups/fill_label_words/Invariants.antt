@@ -3,4 +3,4 @@ use Rattle.layout.proofs.FixupLaws.{Fixing}
 use Rattle.layout.proofs.fixups.fill_label_words.Given as goal
 
 abbrev pub invariant-loop-k : goal.invariant-loop-k
-invariant-loop-k l = Fixing l.text l.labels l.index l.count l.label_words l.words l.initial.data_bytes l.data_bytes l.k
+invariant-loop-k l = Fixing l.labels l.label_words l.words l.initial.data_bytes l.data_bytes l.k

@@ -1,34 +1,31 @@
 -- `index::bucket_of`: what is mixed so far, with the bytes left, is the whole name's.
-use Prim.Native.Nat.{◌+◌}
-use mathlib.Core.Path.{refl, ◌∙◌}
+use Prim.Native.Nat.{◌*◌, ◌/◌}
+use mathlib.Core.Path.{◌≡◌, refl}
 use native.Mathlib.Omega.{arith}
+use lib.ListN.{length}
 use Rattle.layout.specs.Code.Index.{bucket_of}
-use Rattle.layout.proofs.IndexLaws.{mix_two}
+use Rattle.layout.proofs.IndexLaws.{Mixing, mix_pair, mix_one, mix_none}
 use Rattle.layout.proofs.index.bucket_of.Goals as goal
+use Rattle.layout.proofs.index.bucket_of.Goals.{in-Some, in_default, After-first}
 
-pub loop-i-init : goal.loop-i-init
-loop-i-init c = record { within = omega arith; small = omega arith; goes = refl }
+pub loop-pair-preserved : goal.loop-pair-preserved
+loop-pair-preserved c =
+    mix_pair c.args.name.now c.loop-pair.h c.loop-pair.pair-index c.loop-pair.invariant (rw c.as_chunks.ensures.front_len at c.loop-pair-test.true)
+    _ c.as_chunks.ensures.front _ c.from_le_bytes.ensures
 
-pub overflow_cast-h : goal.overflow_cast-h
-overflow_cast-h c = omega (arith, c.type_inv.name c.loop-i.i)
-
-pub overflow_cast-h-in-loop-i : goal.overflow_cast-h-in-loop-i
-overflow_cast-h-in-loop-i c = omega (arith, c.type_inv.name (c.loop-i.i + 1))
-
-pub overflow_mul-h-in-loop-i : goal.overflow_mul-h-in-loop-i
-overflow_mul-h-in-loop-i c = omega (arith, c.type_inv.name (c.loop-i.i + 1))
-
-pub overflow_add-h-in-loop-i : goal.overflow_add-h-in-loop-i
-overflow_add-h-in-loop-i c =
-    let i = c.loop-i.i in
-    omega (arith, c.type_inv.name i, c.type_inv.name (i + 1))
-
-pub overflow_add-h-in-loop-i-2 : goal.overflow_add-h-in-loop-i-2
-overflow_add-h-in-loop-i-2 c = omega (arith, c.type_inv.name c.loop-i.i, c.type_inv.name (c.loop-i.i + 1), c.loop-i.invariant.small)
-
-pub loop-i-preserved : goal.loop-i-preserved
-loop-i-preserved c = mix_two c.args.name.now c.loop-i.h c.loop-i.i c.loop-i.invariant c.loop-i-test.true
+-- all pairs are mixed
+pairs : (c : After-first) → Mixing c.args.name.now c.loop-pair.h (length c.args.name.now / 2 * 2)
+pairs c =
+    let all : c.loop-pair.pair-index ≡ length c.args.name.now / 2 = omega (arith, c.loop-pair-test.false, c.loop-pair.auto.pair-index-end, c.as_chunks.ensures.front_len) in
+    rw all at c.loop-pair.invariant
 
 pub returns : goal.returns
 unfolding bucket_of
-returns c = rw (c.mix_last.ensures.0 ∙ c.loop-i.invariant.goes) refl
+returns c =
+    let d = (goal.at.returns c).After-first in
+    elim c.match-first.branch [
+      | in-Some w ↦
+          rw (w.h-is, mix_one c.args.name.now c.loop-pair.h _ (pairs d) _ c.as_chunks.ensures.back (omega (arith, c.as_chunks.ensures.back_len)) _ w.in-Some.ensures.value) refl
+      | in_default w ↦
+          rw (w.h-is, mix_none c.args.name.now c.loop-pair.h _ (pairs d) _ c.as_chunks.ensures.back w.in_default.ensures.value) refl
+    ]

@@ -1,11 +1,7 @@
 -- `index::bucket_of`: what is mixed so far, with the bytes left, is the whole name's.
-use Prim.Native.Nat.{◌-◌}
-use lib.ListN.{length}
+use Prim.Native.Nat.{◌*◌}
 use Rattle.layout.proofs.IndexLaws.{Mixing}
 use Rattle.layout.proofs.index.bucket_of.Given as goal
 
-abbrev pub invariant-loop-i : goal.invariant-loop-i
-invariant-loop-i l = Mixing l.name l.h l.i
-
-abbrev pub decreases-loop-i : goal.decreases-loop-i
-decreases-loop-i l = length l.name - l.i
+abbrev pub invariant-loop-pair : goal.invariant-loop-pair
+invariant-loop-pair l = Mixing l.fn.name l.h (l.pair-index * 2)

@@ -15,8 +15,8 @@ use Rattle.layout.proofs.labels.add_label.Goals as goal
 pub find_in-requires : goal.find_in-requires
 find_in-requires c = (labels_indexed c.requires.0.stands c.requires.2.0, c.bucket_of-bucket.ensures)
 
-pub put_label-requires : goal.put_label-requires
-put_label-requires c = omega (arith, c.requires.0.stands.counted, c.requires.0.stands.fits.few, c.requires.0.stands.lent, rw c.in-Some.is at c.find_in.ensures.1)
+pub put-requires : goal.put-requires
+put-requires c = omega (arith, c.requires.0.stands.counted, c.requires.0.stands.fits.few, c.requires.0.stands.lent, rw c.in-Some.is at c.find_in.ensures.1)
 
 pub returns-then-room-count : goal.returns-then-room-count
 returns-then-room-count c =
@@ -37,7 +37,7 @@ returns-in-Some c =
     λ ls h. label_known a.text.now a.room a.count (label_store a.labels.now a.index.now) _ _ c.requires.2.0
     (label_fits a.text.now a.name a.place a.line c.requires.3 c.requires.1 c.requires.2.1) (search rules) ls h _
     (rw (c.in-Some.is, c.span_bytes-bytes.ensures) at c.find_in.ensures.0)
-    (c.put_label.ensures ∙ ap (λ (bs : List ℕ). put (c.in-Some.k * label_size) bs a.labels.now) (label_written a.text.now a.name a.place a.line c.requires.3 _ c.code.ensures))
+    (c.put.ensures ∙ ap (λ (bs : List ℕ). put (c.in-Some.k * label_size) bs a.labels.now) (label_written a.text.now a.name a.place a.line c.requires.3 _ c.code.ensures))
     refl
 
 pub returns-else-room-count : goal.returns-else-room-count
@@ -48,5 +48,5 @@ returns-else-room-count c =
     (label_fits a.text.now a.name a.place a.line c.requires.3 c.requires.1 c.requires.2.1) (search rules) ls h
     (rw (c.in-None.is, bytes) at c.find_in.ensures.0)
     c.if-room-count.false
-    (c.put_label-in-None.ensures ∙ ap (λ (bs : List ℕ). put (a.count * label_size) bs a.labels.now) (label_written a.text.now a.name a.place a.line c.requires.3 _ c.code.ensures))
+    (c.put-in-None.ensures ∙ ap (λ (bs : List ℕ). put (a.count * label_size) bs a.labels.now) (label_written a.text.now a.name a.place a.line c.requires.3 _ c.code.ensures))
     _ (c.bucket_of-bucket.ensures ∙ ap bucket_of bytes) c.insert.ensures

@@ -1,38 +1,7 @@
--- `little_endian::get_u32`: the four bytes at the place, each below 256, are the number's digits.
-use Prim.Native.Nat.{◌+◌}
+-- `little_endian::get_u32`: each of the four bytes is worth 256 of the one before it.
 use native.Mathlib.Omega.{arith}
 use Rattle.layout.proofs.ByteLaws.{four_at_lem}
 use Rattle.layout.proofs.little_endian.get_u32.Goals as goal
 
-pub overflow_cast-first : goal.overflow_cast-first
-overflow_cast-first c = omega (arith, c.type_inv.buf c.args.at)
-
-pub overflow_cast-second : goal.overflow_cast-second
-overflow_cast-second c = omega (arith, c.type_inv.buf (c.args.at + 1))
-
-pub overflow_cast-third : goal.overflow_cast-third
-overflow_cast-third c = omega (arith, c.type_inv.buf (c.args.at + 2))
-
-pub overflow_cast-fourth : goal.overflow_cast-fourth
-overflow_cast-fourth c = omega (arith, c.type_inv.buf (c.args.at + 3))
-
-pub overflow_mul-result : goal.overflow_mul-result
-overflow_mul-result c = omega (arith, c.type_inv.buf (c.args.at + 3))
-
-pub overflow_add-result : goal.overflow_add-result
-overflow_add-result c = omega (arith, c.type_inv.buf (c.args.at + 2), c.type_inv.buf (c.args.at + 3))
-
-pub overflow_mul-result-2 : goal.overflow_mul-result-2
-overflow_mul-result-2 c = omega (arith, c.type_inv.buf (c.args.at + 2), c.type_inv.buf (c.args.at + 3))
-
-pub overflow_add-result-2 : goal.overflow_add-result-2
-overflow_add-result-2 c = omega (arith, c.type_inv.buf (c.args.at + 1), c.type_inv.buf (c.args.at + 2), c.type_inv.buf (c.args.at + 3))
-
-pub overflow_mul-result-3 : goal.overflow_mul-result-3
-overflow_mul-result-3 c = omega (arith, c.type_inv.buf (c.args.at + 1), c.type_inv.buf (c.args.at + 2), c.type_inv.buf (c.args.at + 3))
-
-pub overflow_add-result-3 : goal.overflow_add-result-3
-overflow_add-result-3 c = omega (arith, c.type_inv.buf c.args.at, c.type_inv.buf (c.args.at + 1), c.type_inv.buf (c.args.at + 2), c.type_inv.buf (c.args.at + 3))
-
 pub returns : goal.returns
-returns c = four_at_lem c.args.buf.now c.args.at c.requires
+returns c = omega (arith, c.from_le_bytes.ensures, four_at_lem c.args.buf.now c.args.at c.requires)

@@ -15,18 +15,17 @@ returns-then-width-eq4 c = rw c.if-width-eq4.true (c.put_u32.ensures ∙ stored_
 
 pub loop-i-init : goal.loop-i-init
 unfolding little_endian
-loop-i-init c = (omega arith, refl, sym (div-one _), refl)
+loop-i-init c = (refl, sym (div-one _), refl)
 
 pub loop-i-preserved : goal.loop-i-preserved
 loop-i-preserved c =
     let a = c.args in (
-      omega arith,
-      simp length-set c.loop-i.invariant.1,
-      left_more a.v c.loop-i.i c.loop-i.left c.loop-i.invariant.2,
-      rw c.loop-i.invariant.3 (stored_more a.v c.loop-i.i c.loop-i.left a.dst.now c.loop-i.invariant.2 (omega arith)),
+      simp length-set c.loop-i.invariant.0,
+      left_more a.v c.loop-i.i c.loop-i.left c.loop-i.invariant.1,
+      rw c.loop-i.invariant.2 (stored_more a.v c.loop-i.i c.loop-i.left a.dst.now c.loop-i.invariant.1 (omega arith)),
     )
 
 pub returns : goal.returns
 returns c =
-    let e : c.loop-i.i ≡ c.args.width = omega arith in
-    rw (← e) c.loop-i.invariant.3
+    let e : c.loop-i.i ≡ c.args.width = omega (arith, c.loop-i-test.false, c.loop-i.auto.i-end) in
+    rw (← e) c.loop-i.invariant.2

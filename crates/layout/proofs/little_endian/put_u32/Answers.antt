@@ -1,22 +1,10 @@
--- `little_endian::put_u32`: four stores in a row are one store of the number's four bytes.
-use native.Mathlib.Omega.{arith}
-use native.Mathlib.Numerals.{add-one, add-two, add-three}
-use lib.ListN.{length-set}
-use lib.Seq.{sets-eq}
+-- `little_endian::put_u32`: the library's four bytes are the number's.
+use mathlib.Core.Path.{◌∙◌}
 use Rattle.layout.specs.Bytes.{little_endian}
+use Rattle.layout.proofs.ByteLaws.{length-little_endian, low_bytes, put_part}
 use Rattle.layout.proofs.little_endian.put_u32.Goals as goal
 
-pub bounds-buf-at-2 : goal.bounds-buf-at-2
-bounds-buf-at-2 c = simp length-set (omega arith)
-
-pub bounds-buf-at-3 : goal.bounds-buf-at-3
-bounds-buf-at-3 c = simp length-set (omega arith)
-
-pub bounds-buf-at-4 : goal.bounds-buf-at-4
-bounds-buf-at-4 c = simp length-set (omega arith)
-
 pub returns : goal.returns
-unfolding little_endian
 returns c =
-    rw (add-one c.args.at, add-two c.args.at, add-three c.args.at)
-    (sets-eq (little_endian 4 c.args.v) c.args.buf.now c.args.at c.requires)
+    let a = c.args in
+    rw (c.copy_from_slice.ensures.after ∙ c.to_le_bytes.ensures ∙ low_bytes 4 a.v) (put_part a.at 4 (little_endian 4 a.v) a.buf.now (length-little_endian 4 a.v))

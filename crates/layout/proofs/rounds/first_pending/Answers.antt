@@ -10,14 +10,14 @@ loop-i-init c = λ t ix ks s. refl
 pub returns-then-equate-eq0 : goal.returns-then-equate-eq0
 returns-then-equate-eq0 c =
     λ t ix ks s.
-    ap (λ r. r.line) c.get_equate-equate.ensures
-    ∙ first-here s.rows c.loop-i.i (omega (arith, s.rows.counted, c.loop-i-test.true)) (sym (ap (λ r. r.round) c.get_equate-equate.ensures) ∙ c.if-equate-eq0.true)
+    ap (λ r. r.line) c.get-equate.ensures
+    ∙ first-here s.rows c.loop-i.i (omega (arith, s.rows.counted, c.loop-i-test.true)) (sym (ap (λ r. r.round) c.get-equate.ensures) ∙ c.if-equate-eq0.true)
     ∙ c.loop-i.invariant t ix ks s
 
 pub loop-i-preserved : goal.loop-i-preserved
 loop-i-preserved c =
     λ t ix ks s.
-    first_next s.rows c.loop-i.i (omega (arith, s.rows.counted, c.loop-i-test.true)) (λ e. c.if-equate-eq0.false (ap (λ r. r.round) c.get_equate-equate.ensures ∙ e))
+    first_next s.rows c.loop-i.i (omega (arith, s.rows.counted, c.loop-i-test.true)) (λ e. c.if-equate-eq0.false (ap (λ r. r.round) c.get-equate.ensures ∙ e))
     ∙ c.loop-i.invariant t ix ks s
 
 pub returns : goal.returns

@@ -9,4 +9,4 @@ pub returns : goal.returns
 returns c =
     let a = c.args in
     let fit : SFits w64 a.value = search rules in
-    rw (to_z-of_z fit, c.get_equate-equate.ensures) at c.put_equate.ensures
+    rw (to_z-of_z fit, c.get-equate.ensures) at c.put.ensures

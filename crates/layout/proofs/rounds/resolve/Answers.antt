@@ -18,7 +18,7 @@ use Rattle.layout.specs.Bytes.{put}
 use Rattle.layout.specs.Limits.{equate_size}
 use Rattle.layout.specs.Records.{RecordField, field_bytes, equate_record_at}
 use Rattle.layout.specs.State.{State}
-use Rattle.layout.specs.Code.Resolves.{RoundsStand}
+use Rattle.layout.specs.Code.Resolves.{RoundsFor}
 use Rattle.layout.proofs.KnownLaws.{equates_lent}
 use Rattle.layout.proofs.RoundSteps.{frame_of, standing, Walking, Here, walk_here, round_first, round_begins, round_next, round_done, round_stuck}
 use Rattle.layout.proofs.RoundSteps.{next_kept, next_waits, next_found, next_refused, some_pending, few_evaluations}
@@ -33,8 +33,8 @@ loop-pending-init c = λ base σ s. round_first s
 
 -- the equate whose turn it is, of whatever the buffers stood for at the start
 here : (d : In-loop-k) (base : ℕ) (σ : State)
-    → RoundsStand d.args.text.now d.args.labels.now d.args.label_index.now d.args.label_count d.args.starts d.args.equates.now d.args.equate_index.now d.args.count d.args.exprs.now d.args.partials.now base σ
-    → Here (frame_of d.args.text.now d.args.equate_index.now d.args.count base σ (length d.args.equates.now) (length d.args.partials.now))
+    → RoundsFor d.args.labels d.args.starts d.args.equates.now d.args.equate_index.now d.args.count d.args.exprs.now d.args.partials.now base σ
+    → Here (frame_of d.args.labels.text.now d.args.equate_index.now d.args.count base σ (length d.args.equates.now) (length d.args.partials.now))
     (d.loop-pending.round + 1) d.loop-pending.pending d.loop-k.equates d.loop-k.partials d.loop-k.evaluations d.loop-k.pending d.loop-k.k
 here d base σ s =
     walk_here _ _ _ _ _ _ _ _
@@ -67,9 +67,9 @@ overflow_sub-pending c =
     let d = (goal.at.overflow_sub-pending c).In-loop-k in
     some_pending _ _ _ _ _ _ _ _ (here d _ _ c.requires.stands) (pending d (sym c.is_pending.ensures ∙ c.if-is_pending.true))
 
-pub get_equate-requires : goal.get_equate-requires
-get_equate-requires c =
-    let h = here (goal.at.get_equate-requires c).In-loop-k _ _ c.requires.stands in
+pub get-requires : goal.get-requires
+get-requires c =
+    let h = here (goal.at.get-requires c).In-loop-k _ _ c.requires.stands in
     omega (arith, equates_lent h.walk.table.rows, c.loop-k-test.true)
 
 pub returns-in-Err : goal.returns-in-Err
@@ -79,7 +79,7 @@ returns-in-Err c =
     let p = pending_here _ (standing s.stands) _ _ _ _ _ _ _ h (eqb-true _ _ (sym c.is_pending.ensures ∙ c.if-is_pending.true)) in
     let g = c.evaluate-turn.ensures _ (again_here _ (standing s.stands) _ _ _ _ _ _ _ h _ c.partial_at.ensures c.loop-k-test.true p) in
     let t = rw c.in-Err.is at (gave_here _ (standing s.stands) _ _ _ _ _ _ _ h _ g.gives) in
-    let line = ap (λ r. r.line) c.get_equate.ensures ∙ line_here _ (standing s.stands) _ _ _ _ _ _ _ h in
+    let line = ap (λ r. r.line) c.get.ensures ∙ line_here _ (standing s.stands) _ _ _ _ _ _ _ h in
     rw (c.at.ensures, line, next_refused _ _ _ _ _ _ _ _ h p _ t.answers) refl
 
 pub loop-k-preserved : goal.loop-k-preserved
@@ -112,8 +112,8 @@ loop-k-preserved c =
 
 -- a round's end, of whatever the buffers stood for at the start
 ended : (d : After-loop-k) (base : ℕ) (σ : State)
-    → RoundsStand d.args.text.now d.args.labels.now d.args.label_index.now d.args.label_count d.args.starts d.args.equates.now d.args.equate_index.now d.args.count d.args.exprs.now d.args.partials.now base σ
-    → Walking (frame_of d.args.text.now d.args.equate_index.now d.args.count base σ (length d.args.equates.now) (length d.args.partials.now))
+    → RoundsFor d.args.labels d.args.starts d.args.equates.now d.args.equate_index.now d.args.count d.args.exprs.now d.args.partials.now base σ
+    → Walking (frame_of d.args.labels.text.now d.args.equate_index.now d.args.count base σ (length d.args.equates.now) (length d.args.partials.now))
     (d.loop-pending.round + 1) d.loop-pending.pending d.loop-k.equates d.loop-k.partials d.loop-k.evaluations d.loop-k.pending d.loop-k.k
 ended d base σ s = d.loop-k.invariant _ _ _ _ (standing s) (round_begins _ _ _ _ _ _ (d.loop-pending.invariant base σ s) d.loop-pending-test.true)
 

@@ -37,5 +37,5 @@ pub returns : goal.returns
 returns c = (
   refl,
   line_cut _ _ _ _ c.requires c.cut_from-mark.ensures c.stop_from-stop.ensures _ c.trim_span_far-inner.ensures
-      _ c.end_from-end.ensures _ c.least.ensures,
+      _ c.end_from-end.ensures _ c.min.ensures,
 )

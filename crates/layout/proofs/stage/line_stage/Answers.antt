@@ -6,11 +6,6 @@ use Rattle.layout.specs.Code.Numbers.{numbered}
 use Rattle.layout.proofs.ResultLaws.{refused_there}
 use native.Mathlib.Omega.{arith}
 use lib.ListN.{length}
-use Rattle.numbers.specs.Code.Tables.{row_of, row_name, slot_of, prefix_slot, slot_rows, joined, rows_from, starts_from, table_of, all}
-use Rattle.layout.specs.Pseudos.{spellings}
-use Rattle.layout.specs.Directives as table
-use Rattle.layout.specs.Code.Kinds.{PseudoNames}
-use Rattle.layout.specs.Code.Rows.{DirectiveNames}
 use Rattle.layout.specs.Code.Stands.{store}
 use Rattle.layout.proofs.CutLaws.{cut_end}
 use Rattle.layout.proofs.TurnLaws.{head_same, head_first, turn_go, turn-stop, turn_blank, turns_end}
@@ -18,11 +13,7 @@ use Rattle.layout.proofs.stage.line_stage.Goals as goal
 use Rattle.layout.proofs.stage.line_stage.Goals.{then-cut-gt0+in_ok-st, else-cut-gt0}
 
 pub loop-at-init : goal.loop-at-init
-unfolding spellings table.directives row_of row_name slot_of prefix_slot slot_rows joined rows_from starts_from table_of all
-loop-at-init c =
-    let directives : DirectiveNames _ = record { each = refl; is = refl } in
-    let pseudos : PseudoNames _ = record { each = refl; is = refl } in
-    (head_first _ _ _ c.requires.1, refl, refl, refl, refl, refl, refl, refl, directives, pseudos)
+loop-at-init c = (head_first _ _ _ c.requires.1, refl, refl, refl, refl, refl, refl, refl)
 
 pub returns-in_err-st : goal.returns-in_err-st
 returns-in_err-st c =
@@ -50,8 +41,6 @@ loop-at-preserved c =
         ap length w.items-is ∙ w.step_line.auto.items ∙ v.5,
         ap length w.data_bytes-is ∙ w.step_line.auto.data_bytes ∙ v.6,
         ap length w.label_words-is ∙ w.step_line.auto.label_words ∙ v.7,
-        v.8,
-        v.9,
       )
       | else-cut-gt0 w ↦ (
         head_same _ _ _ _ _ _ _ _ (λ i. store (w.labels-is i) (w.index-is i) (w.equates-is i) (w.exprs-is i) (w.items-is i) (w.data_bytes-is i) (w.label_words-is i)) w.st-is
@@ -63,8 +52,6 @@ loop-at-preserved c =
         ap length w.items-is ∙ v.5,
         ap length w.data_bytes-is ∙ v.6,
         ap length w.label_words-is ∙ v.7,
-        v.8,
-        v.9,
       )
     ]
 

@@ -2,8 +2,6 @@
 use Prim.Native.Nat.{◌-◌}
 use mathlib.Core.Path.{◌≡◌}
 use lib.ListN.{length}
-use Rattle.layout.specs.Code.Kinds.{PseudoNames}
-use Rattle.layout.specs.Code.Rows.{DirectiveNames}
 use Rattle.layout.specs.Code.Stands.{store}
 use Rattle.layout.proofs.TurnLaws.{Head}
 use Rattle.layout.proofs.stage.line_stage.Given as goal
@@ -14,7 +12,6 @@ invariant-loop-at l = Head l.text l.room (store l.labels l.index l.equates l.exp
     × (length l.equates ≡ length l.initial.equates)
     × (length l.exprs ≡ length l.initial.exprs) × (length l.items ≡ length l.initial.items) × (length l.data_bytes ≡ length l.initial.data_bytes)
     × (length l.label_words ≡ length l.initial.label_words)
-    × DirectiveNames l.directives × PseudoNames l.pseudos
 
 abbrev pub decreases-loop-at : goal.decreases-loop-at
 decreases-loop-at l = length l.text - l.at

@@ -43,7 +43,6 @@ statement_step-requires c =
       c.requires.1,
       line_says-within a.text.now a.cut.at a.cut.end (cut_order _ _ c.requires.2) (cut_end _ _ c.requires.2) a.st.rest.own.section c.line_of-parsed.result
           c.line_of-parsed.ensures _ c.in_ok-statement.was,
-      c.requires.4,
     )
 
 pub returns-in_err-rest : goal.returns-in_err-rest

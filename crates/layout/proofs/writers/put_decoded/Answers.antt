@@ -12,24 +12,24 @@ use Rattle.numbers.proofs.CharLaws.{decoded_on, decoded_bad, decoded_end, char_i
 use Rattle.layout.proofs.ByteLaws.{copied_more}
 use borrow.Author.Rules.{rules}
 use Rattle.layout.proofs.writers.put_decoded.Goals as goal
-use Rattle.layout.proofs.writers.put_decoded.Goals.{In-Some}
+use Rattle.layout.proofs.writers.put_decoded.Goals.{In-Is}
 
 -- the character at i
-here : (d : In-Some)
+here : (d : In-Is)
     → char_of (drop d.loop-b.i d.args.s.now)
-    ≡ Some (char d.in-Some.b d.in-Some.more)
-here d = sym d.char_at.ensures ∙ ap char_value d.in-Some.is
+    ≡ Some (char d.in-Is.b d.in-Is.more)
+here d = sym d.char_at.ensures ∙ ap char_value d.in-Is.is
 
 -- it ends within the text
-inside : (d : In-Some)
-    → d.loop-b.i + (d.in-Some.more + 1) ≤ length d.args.s.now
+inside : (d : In-Is)
+    → d.loop-b.i + (d.in-Is.more + 1) ≤ length d.args.s.now
 inside d = char_inside _ _ _ (here d)
 
 -- its byte is the next
-next : (d : In-Some)
+next : (d : In-Is)
     → (d.loop-b.n < length (decoded_bytes d.args.s.now))
-    × (get_or (decoded_bytes d.args.s.now) d.loop-b.n 0 ≡ d.in-Some.b)
-    × (decoded (drop (d.loop-b.i + (d.in-Some.more + 1)) d.args.s.now)
+    × (get_or (decoded_bytes d.args.s.now) d.loop-b.n 0 ≡ d.in-Is.b)
+    × (decoded (drop (d.loop-b.i + (d.in-Is.more + 1)) d.args.s.now)
     ≡ Some (drop (d.loop-b.n + 1) (decoded_bytes d.args.s.now)))
 next d = next_byte _ _ _ _ (sym (decoded_on _ _ _ (here d)) ∙ d.loop-b.invariant.3)
 
@@ -41,8 +41,8 @@ bounds-dst-n c =
 pub overflow_add-i : goal.overflow_add-i
 overflow_add-i c = let h = inside c in search rules
 
-pub overflow_add-i-in-Some : goal.overflow_add-i-in-Some
-overflow_add-i-in-Some c = let h = inside c in search rules
+pub overflow_add-i-in-Is : goal.overflow_add-i-in-Is
+overflow_add-i-in-Is c = let h = inside c in search rules
 
 pub loop-b-smaller : goal.loop-b-smaller
 loop-b-smaller c = let h = inside c in search rules

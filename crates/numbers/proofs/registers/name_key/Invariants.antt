@@ -9,6 +9,3 @@ use Rattle.numbers.proofs.registers.name_key.Given as goal
 
 abbrev pub invariant-loop-i : goal.invariant-loop-i
 invariant-loop-i l = (l.i ≤ length l.s) × (l.key < 2 * 256 ^ (length l.s - l.i)) × (l.key ≡ key_of (map lower_case (drop l.i l.s)))
-
-abbrev pub decreases-loop-i : goal.decreases-loop-i
-decreases-loop-i l = l.i

@@ -1,20 +1,15 @@
--- `strings::mark_from`: the place found from i on is the place found from the start.
+-- `strings::mark_from`: the bytes before the first quote or backslash, from the whole blocks on.
+use mathlib.Core.Bool.{not, ◌&&◌}
 use native.Mathlib.Omega.{arith}
-use Rattle.numbers.proofs.QuoteLaws.{plain_on, plain-within, plain_here, plain_next, plain_end}
+use lib.Dec.{eqb}
+use lib.ListN.{drop}
 use borrow.Author.Rules.{rules}
+use Rattle.numbers.proofs.QuoteLaws.{plain_on, plain_leading}
 use Rattle.numbers.proofs.strings.mark_from.Goals as goal
 
-pub loop-i-init : goal.loop-i-init
-loop-i-init c =
-    let a = c.args in
-    let s = a.s.now in
-    (omega (arith, plain-within s a.at c.requires), plain_on s a.at c.mark_blocks-i.result (omega arith) (omega arith))
-
-pub returns-then-b : goal.returns-then-b
-returns-then-b c = omega (arith, plain_here c.args.s.now c.loop-i.i (search rules) c.if-b.true)
-
-pub loop-i-preserved : goal.loop-i-preserved
-loop-i-preserved c = omega (arith, plain_next c.args.s.now c.loop-i.i (search rules) c.if-b.false)
-
 pub returns : goal.returns
-returns c = omega (arith, plain_end c.args.s.now c.loop-i.i c.loop-i-test.false)
+returns c =
+    let s = c.args.s.now in
+    let from = c.mark_blocks.result in
+    rw (c.leading_from.ensures.value (λ x. not (eqb x 34) && not (eqb x 92)) (λ x b k. search rules), ← (plain_leading (drop from s)))
+    (plain_on s c.args.at from (omega (arith, c.mark_blocks.ensures)) (omega (arith, c.mark_blocks.ensures)))

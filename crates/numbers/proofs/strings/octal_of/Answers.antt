@@ -44,4 +44,6 @@ loop-n-preserved c =
     )
 
 pub returns : goal.returns
-returns c = c.octal-2.ensures ∙ octal_end _ _ _ c.loop-n.invariant.0 c.loop-n.invariant.1 c.loop-n-test.false
+returns c =
+    let all : c.loop-n.n ≡ 3 = omega (arith, c.loop-n-test.false, c.loop-n.auto.n-end) in
+    c.octal-2.ensures ∙ octal_end _ _ _ (rw all at c.loop-n.invariant.0) (rw all at c.loop-n.invariant.1) (omega arith)

@@ -7,6 +7,3 @@ use Rattle.numbers.proofs.text.trim_end_len.Given as goal
 
 abbrev pub invariant-loop-i : goal.invariant-loop-i
 invariant-loop-i l = (l.i ≤ length l.s) × (trim_end (take l.i l.s) ≡ trim_end l.s)
-
-abbrev pub decreases-loop-i : goal.decreases-loop-i
-decreases-loop-i l = l.i

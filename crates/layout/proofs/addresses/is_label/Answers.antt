@@ -1,7 +1,0 @@
--- `addresses::is_label`: a label has the name where the look-up finds one.
-use mathlib.Core.Path.{◌∙◌}
-use Rattle.layout.proofs.AddressLaws.{whether_label}
-use Rattle.layout.proofs.addresses.is_label.Goals as goal
-
-pub returns : goal.returns
-returns c = λ base σ p. c.is_some.ensures ∙ whether_label p _ _ c.find_label.ensures.0

@@ -1,6 +1,0 @@
--- `labels::is_named`: the record's name, compared.
-use mathlib.Core.Path.{refl}
-use Rattle.layout.proofs.labels.is_named.Goals as goal
-
-pub returns : goal.returns
-returns c = rw (c.same_bytes.ensures, c.label_name.ensures) refl

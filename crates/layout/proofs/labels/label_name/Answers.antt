@@ -1,6 +1,0 @@
--- `labels::label_name`: the text at the span in the record.
-use mathlib.Core.Path.{refl}
-use Rattle.layout.proofs.labels.label_name.Goals as goal
-
-pub returns : goal.returns
-returns c = rw (c.span_bytes.ensures, c.get_label-label.ensures) refl

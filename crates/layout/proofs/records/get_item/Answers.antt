@@ -1,5 +1,0 @@
-use mathlib.Core.Path.{refl}
-use Rattle.layout.proofs.records.get_item.Goals as goal
-
-pub returns : goal.returns
-returns c = rw (c.get_u32.ensures, c.get_u32-2.ensures, c.get_u32-3.ensures, c.get_u32-4.ensures, c.get_u32-5.ensures, c.get_u32-6.ensures) refl
