@@ -55,6 +55,8 @@ fn check(registers: bool, field: bool) -> Result<(), EncodeError>
     Ok(())
 }
 
+// One function for each format: which registers are checked, the field's range and where its bits go are each its own, which one function
+// over all of them would have to be told case by case.
 fn pack_r(opcode: u8, funct3: u8, funct7: u8, rd: u8, rs1: u8, rs2: u8) -> Result<u32, EncodeError>
     ensures { numbered result ≡ word_of (R opcode funct3 funct7 rd rs1 rs2) }
 {

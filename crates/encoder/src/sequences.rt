@@ -52,7 +52,7 @@ impl Expansion {
     }
 }
 
-// The instructions that sequences are made of.
+// The instructions that sequences are made of. Each is another variant, for which no type parameter stands.
 fn addi(rd: Register, rs1: Register, imm: i32) -> Slot
     ensures { result.0 ≡ Addi rd.0 rs1.0 imm }
 {

@@ -365,6 +365,7 @@ pub fn data_line(
     let readings = readings_of(text, source, part);
     let mut now = st;
     let mut at = 0;
+    // Not an iterator: each write begins where the one before ends and may be refused, so that the place and the `?` would stay here.
     while let Some((write, after)) = next_write(text, readings, part, at)? {
         now = data_write(text, data_bytes, label_words, room, now, line, write)?;
         at = after;

@@ -167,7 +167,7 @@ fn first_pending(equates: &[u8], count: usize) -> u32
     0
 }
 
-// Every round; the total is of the evaluations.
+// Every round; the total is of the evaluations. How many rounds there are is known only when nothing is pending.
 pub fn resolve<'a>(
     labels: Labels<'a>,
     starts: Starts,

@@ -170,7 +170,8 @@ fn step_line(
     Ok(Counters { labels, rest })
 }
 
-// Every line of the text, into buffers of zeros. A line without a statement changes nothing.
+// Every line of the text, into buffers of zeros. A line without a statement changes nothing. Not by the library's `lines`: a line
+// is cut where it ends, in the one pass that finds its parts.
 pub fn line_stage(
     text: &[u8],
     labels: &mut [u8],

@@ -21,7 +21,7 @@ pub enum Token {
 fn is_blank(b: u8) -> bool
     ensures { result ≡ is_blank b }
 {
-    matches!(b, b'\t' | b'\n' | b'\r' | b' ' | b',')
+    (b == b'\t') | (b == b'\n') | (b == b'\r') | (b == b' ') | (b == b',')
 }
 
 fn is_name_byte(b: u8) -> bool
