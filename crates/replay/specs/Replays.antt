@@ -1,4 +1,4 @@
--- The outcome of a replay: the tally of lines, one by one. Which lines the list has cannot be said.
+-- The outcome of a replay: the tally of lines, one by one. Which lines the list has is not said.
 use Rattle.std.specs.Prelude.{◌≡◌, ℕ, ◌<◌, ◌⊎◌, Bool, false, List, length}
 use Rattle.std.specs.List.{FoldsTo}
 use Rattle.replay.specs.declared.tally.Tally.{Tally}
