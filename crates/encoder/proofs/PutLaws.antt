@@ -7,10 +7,8 @@ use Rattle.std.proofs.lemmas.List.{take_more, get_or-take, length-map}
 use Rattle.std.proofs.Common.{Result, Ok, Err}
 use Rattle.numbers.specs.Results.{and_then, mapped}
 use Rattle.numbers.specs.Code.Meanings.{Agrees}
-use Rattle.encoder.specs.declared.error.EncodeError.{EncodeError}
 use Rattle.encoder.specs.declared.instruction.Instruction.{Instruction}
 use Rattle.encoder.specs.Encoding.{encoding, encoded}
-use Rattle.encoder.specs.Code.Meanings.{refusal_number, numbered}
 use Rattle.encoder.specs.Code.Words.{WordsPut}
 
 -- words in front of words
@@ -45,24 +43,20 @@ module _ (is : List Instruction) (d : List ℕ) where
 pub slots_size : {X : Type 0} (f : X → Instruction) (xs : List X) (n : ℕ) → n ≤ length xs → length (map f (take n xs)) ≡ n
 slots_size f xs n fits = length-map (take n xs) f ∙ length-take-le n xs fits
 
--- the instructions are f of the first n of xs; the words of the first k are put, and the answer for the next is r
+-- the instructions are f of the first n of xs, and the words of the first k are put
 module _ {X : Type 0} (f : X → Instruction) (xs : List X) (n : ℕ) (is : List Instruction) (v : map f (take n xs) ≡ is) (fits : n ≤ length xs)
-    (d d' : List ℕ) (k : ℕ) (h : k < n) (none : X) (r : Result ℕ EncodeError) (e : numbered r ≡ encoding (f (get_or xs k none)))
-    (p : Agrees (WordsPut d d') (Ok k) (encoded (take k is))) where
+    (d d' : List ℕ) (k : ℕ) (h : k < n) (none : X) (p : Agrees (WordsPut d d') (Ok k) (encoded (take k is))) where
   inside : k < length is
   inside = rw (← v, slots_size f xs n fits) h
 
-  next : numbered r ≡ encoding (get_or is k (f none))
-  next = rw (← v, get_or-map f (take n xs) k none, get_or-take n xs k none h) e
+  next : encoding (f (get_or xs k none)) ≡ encoding (get_or is k (f none))
+  next = rw (← v, get_or-map f (take n xs) k none, get_or-take n xs k none h) refl
 
   -- a word is put behind theirs
-  pub put_more : (w : ℕ) → r ≡ Ok w → length is ≤ length d → Agrees (WordsPut d (set d' k w)) (Ok (k + 1)) (encoded (take (k + 1) is))
+  pub put_more : (w : ℕ) → k < length d → encoding (f (get_or xs k none)) ≡ Ok w → Agrees (WordsPut d (set d' k w)) (Ok (k + 1)) (encoded (take (k + 1) is))
   unfolding encoded
-  put_more w q m = rw (take_more is k (f none) inside, encoded-append (take k is) (get_or is k (f none) ∷ []), ← next, q) (go (encoded (take k is)) p)
+  put_more w g q = rw (take_more is k (f none) inside, encoded-append (take k is) (get_or is k (f none) ∷ []), ← next, q) (go (encoded (take k is)) p)
     where
-      g : k < length d
-      g = omega (arith, inside)
-
       go : (x : Result (List ℕ) ℕ) → Agrees (WordsPut d d') (Ok k) x → Agrees (WordsPut d (set d' k w)) (Ok (k + 1)) (and_then x (λ ws. Ok (ws ++ w ∷ [])))
       go (Ok ws) q =
           record {
@@ -73,12 +67,12 @@ module _ {X : Type 0} (f : X → Instruction) (xs : List X) (n : ℕ) (is : List
       go (Err m) q = q
 
   -- a refusal is that of all
-  pub put_stops : (m : EncodeError) → r ≡ Err m → Agrees (WordsPut d d') (Err (refusal_number m)) (encoded is)
+  pub put_stops : (m : ℕ) → encoding (f (get_or xs k none)) ≡ Err m → Agrees (WordsPut d d') (Err m) (encoded is)
   unfolding encoded
   put_stops m q =
       let rest : List Instruction = drop (suc k) is in
       rw (ap encoded (split_at is k (f none) inside) ∙ encoded-append (take k is) (get_or is k (f none) ∷ rest), ← next, q) (go (encoded (take k is)) p)
     where
-      go : (x : Result (List ℕ) ℕ) → Agrees (WordsPut d d') (Ok k) x → Agrees (WordsPut d d') (Err (refusal_number m)) (and_then x (λ ws. Err (refusal_number m)))
+      go : (x : Result (List ℕ) ℕ) → Agrees (WordsPut d d') (Ok k) x → Agrees (WordsPut d d') (Err m) (and_then x (λ ws. Err m))
       go (Ok ws) q = refl
       go (Err n) q = absurd q

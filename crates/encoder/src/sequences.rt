@@ -21,30 +21,71 @@ pub const LONGEST: usize = 11;
 
 // One instruction. A struct is copied whole; the bytes of an enum in an array would be copied one by one, which is slower.
 #[derive(Clone, Copy)]
-struct Slot(Instruction);
+pub struct Slot {
+    pub inst: Instruction,
+}
 
-const ECALL: Slot = Slot(Instruction::Ecall);
+const ECALL: Slot = Slot {
+    inst: Instruction::Ecall,
+};
 
 // The instructions in the first slots, as many as are counted.
-#[derive(Drop)]
+#[derive(Clone, Copy)]
 pub struct Expansion {
-    slots: [Slot; LONGEST],
-    count: usize,
+    pub slots: [Slot; LONGEST],
+    pub count: usize,
 }
 
 impl Model for Expansion {
+    ghost use Rattle.std.specs.Prelude.{◌-◌, ◌≡◌, ◌≤◌, ◌++◌, List, length, take, drop, map, replicate};
+    ghost use Rattle.std.proofs.Common.{◌∙◌, ap, ap₂, sym, length-take-le};
+    ghost use Rattle.std.proofs.lemmas.List.{take-append-drop, length-map, map-id};
+    ghost use Rattle.std.proofs.lemmas.Simd.{map-map};
+    ghost use Rattle.encoder.specs.declared.instruction.Instruction as declared;
+    ghost use Rattle.encoder.specs.declared.instruction.Instruction.TheVariants.{Ecall};
+    ghost use Rattle.encoder.specs.declared.sequences.Slot.{Slot};
+    ghost use Rattle.encoder.specs.declared.sequences.TheConstants.{LONGEST};
+
     ghost Value = { List declared.Instruction };
 
-    ghost view = { λ e. map (λ s. s.0) (take e.count e.slots) };
+    ghost view = { λ e. map (λ s. s.inst) (take e.count e.slots) };
 
-    // The slots' length is their type's, which a proof that opens an expansion is not told.
-    ghost invariant = { λ e. (e.count ≤ LONGEST) × (length e.slots ≡ LONGEST) };
+    // The slots' length is their type's, which a proof that opens an expansion is not told. Behind those that are counted stand ecalls.
+    ghost invariant = { λ e. (e.count ≤ LONGEST) × (length e.slots ≡ LONGEST)
+        × (e.count ≤ length e.slots) × (drop e.count e.slots ≡ replicate (LONGEST - e.count) (record { inst = Ecall })) };
+
+    // So the list gives slots and count back, and an expansion may be copied.
+    ghost inverse = { λ is. record {
+      slots = map (λ (i : declared.Instruction). record { inst = i }) is ++ replicate (LONGEST - length is) (record { inst = Ecall });
+      count = length is;
+    } };
+
+    ghost inverse_ok = { λ e h i.
+        let size = length-map (take e.count e.slots) (λ (s : Slot). s.inst) ∙ length-take-le e.count e.slots h.2 in record {
+          slots = (ap₂ (λ (a b : List Slot). a ++ b)
+              (map-map (λ (j : declared.Instruction). record { inst = j }) (λ (s : Slot). s.inst) (take e.count e.slots) ∙ map-id (take e.count e.slots))
+              (ap (λ n. replicate (LONGEST - n) (record { inst = Ecall })) size ∙ sym h.3)
+              ∙ take-append-drop e.count e.slots) i;
+          count = size i;
+        } };
 }
 
 impl Expansion {
+    // The instructions in the first slots, as many as are counted: all, where there are fewer slots.
+    pub fn new(mut slots: [Slot; LONGEST], count: usize) -> Self
+        ensures { result ≡ map (λ s. s.inst) (take count slots) }
+    {
+        let counted = count.min(LONGEST);
+        slots[counted..].fill(ECALL);
+        Expansion {
+            slots,
+            count: counted,
+        }
+    }
+
     fn of<const N: usize>(instructions: [Slot; N]) -> Self
         requires { N ≤ LONGEST }
-        ensures { result ≡ map (λ s. s.0) instructions.entry }
+        ensures { result ≡ map (λ s. s.inst) instructions.entry }
     {
         let mut slots = [ECALL; LONGEST];
         slots[..N].copy_from_slice(&instructions);
@@ -54,80 +95,96 @@ impl Expansion {
 
 // The instructions that sequences are made of. Each is another variant, for which no type parameter stands.
 fn addi(rd: Register, rs1: Register, imm: i32) -> Slot
-    ensures { result.0 ≡ Addi rd.0 rs1.0 imm }
+    ensures { result.inst ≡ Addi rd.0 rs1.0 imm }
 {
-    Slot(Instruction::Addi {
-        rd: rd.0,
-        rs1: rs1.0,
-        imm,
-    })
+    Slot {
+        inst: Instruction::Addi {
+            rd: rd.0,
+            rs1: rs1.0,
+            imm,
+        },
+    }
 }
 
 fn sub(rd: Register, rs1: Register, rs2: Register) -> Slot
-    ensures { result.0 ≡ Sub rd.0 rs1.0 rs2.0 }
+    ensures { result.inst ≡ Sub rd.0 rs1.0 rs2.0 }
 {
-    Slot(Instruction::Sub {
-        rd: rd.0,
-        rs1: rs1.0,
-        rs2: rs2.0,
-    })
+    Slot {
+        inst: Instruction::Sub {
+            rd: rd.0,
+            rs1: rs1.0,
+            rs2: rs2.0,
+        },
+    }
 }
 
 fn lbu(rd: Register, rs1: Register, imm: i32) -> Slot
-    ensures { result.0 ≡ Lbu rd.0 rs1.0 imm }
+    ensures { result.inst ≡ Lbu rd.0 rs1.0 imm }
 {
-    Slot(Instruction::Lbu {
-        rd: rd.0,
-        rs1: rs1.0,
-        imm,
-    })
+    Slot {
+        inst: Instruction::Lbu {
+            rd: rd.0,
+            rs1: rs1.0,
+            imm,
+        },
+    }
 }
 
 fn lw(rd: Register, rs1: Register, imm: i32) -> Slot
-    ensures { result.0 ≡ Lw rd.0 rs1.0 imm }
+    ensures { result.inst ≡ Lw rd.0 rs1.0 imm }
 {
-    Slot(Instruction::Lw {
-        rd: rd.0,
-        rs1: rs1.0,
-        imm,
-    })
+    Slot {
+        inst: Instruction::Lw {
+            rd: rd.0,
+            rs1: rs1.0,
+            imm,
+        },
+    }
 }
 
 fn sw(rs2: Register, rs1: Register, imm: i32) -> Slot
-    ensures { result.0 ≡ Sw rs2.0 rs1.0 imm }
+    ensures { result.inst ≡ Sw rs2.0 rs1.0 imm }
 {
-    Slot(Instruction::Sw {
-        rs2: rs2.0,
-        rs1: rs1.0,
-        imm,
-    })
+    Slot {
+        inst: Instruction::Sw {
+            rs2: rs2.0,
+            rs1: rs1.0,
+            imm,
+        },
+    }
 }
 
 fn beq(rs1: Register, rs2: Register, imm: i32) -> Slot
-    ensures { result.0 ≡ Beq rs1.0 rs2.0 imm }
+    ensures { result.inst ≡ Beq rs1.0 rs2.0 imm }
 {
-    Slot(Instruction::Beq {
-        rs1: rs1.0,
-        rs2: rs2.0,
-        imm,
-    })
+    Slot {
+        inst: Instruction::Beq {
+            rs1: rs1.0,
+            rs2: rs2.0,
+            imm,
+        },
+    }
 }
 
 fn lui(rd: Register, imm: i32) -> Slot
-    ensures { result.0 ≡ Lui rd.0 imm }
+    ensures { result.inst ≡ Lui rd.0 imm }
 {
-    Slot(Instruction::Lui { rd: rd.0, imm })
+    Slot {
+        inst: Instruction::Lui { rd: rd.0, imm },
+    }
 }
 
 fn jal(rd: Register, imm: i32) -> Slot
-    ensures { result.0 ≡ Jal rd.0 imm }
+    ensures { result.inst ≡ Jal rd.0 imm }
 {
-    Slot(Instruction::Jal { rd: rd.0, imm })
+    Slot {
+        inst: Instruction::Jal { rd: rd.0, imm },
+    }
 }
 
 // The lui of b's upper part and the addi of its lower part.
 fn load_pair(rd: Register, b: u32) -> [Slot; 2]
-    ensures { map (λ s. s.0) result ≡ load_pair rd.0 b }
+    ensures { map (λ s. s.inst) result ≡ load_pair rd.0 b }
 {
     [
         lui(rd, upper_part(b).cast_signed()),
@@ -253,8 +310,7 @@ pub fn put_words(dst: &mut [u32], e: Expansion) -> Result<usize, EncodeError>
     ensures { Puts dst (numbered result) (encoded e) }
 {
     for k in 0..e.count {
-        let Slot(instruction) = e.slots[k];
-        dst[k] = encode(instruction)?;
+        dst[k] = encode(e.slots[k].inst)?;
     }
     Ok(e.count)
 }

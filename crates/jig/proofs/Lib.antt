@@ -1,1 +1,2 @@
 pub mod CalledLaws
+pub mod NumberLaws

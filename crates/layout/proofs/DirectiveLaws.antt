@@ -73,7 +73,7 @@ number_fits (Stores (Text (suc (suc z)))) h = absurd (omega arith)
 
 -- ---- rows
 
--- a name is a word of at most 12 bytes, and the number one that `directive_numbered` knows
+-- a name is a word of at most 12 bytes, and the number one that `Directive::numbered` knows
 abbrev is_small : Row → Bool
 is_small r = is_word r.name && (ltb (length r.name) 13 && leb (directive_number r.directive) 11)
 

@@ -10,12 +10,14 @@ use lib.Seq.{set_split}
 use Rattle.std.proofs.Common.{Ok, Err}
 use Rattle.numbers.specs.Results.{and_then}
 use Rattle.encoder.specs.declared.instruction.Instruction.{Instruction}
+use Rattle.encoder.specs.declared.sequences.TheConstants.{LONGEST}
 use Rattle.encoder.specs.Encoding.{encoded}
 use Rattle.encoder.specs.Code.Words.{WordsPut}
 use Rattle.layout.specs.declared.pseudo.Pseudo.{Pseudo}
 use Rattle.layout.specs.Pseudos.{pseudo_operands, pseudo_words}
 use Rattle.layout.specs.Expansions.{wanted, Arguments, looked_up, instructions, expansion}
 use Rattle.layout.specs.Layouts.{emission}
+use Rattle.layout.proofs.PseudoLaws.{words_few}
 use Rattle.layout.proofs.Emissions.{expansion_fits}
 
 -- the one word of an ordinary line
@@ -35,9 +37,9 @@ module _ (const : List ℕ → Option ℤ) (place : List ℕ → Option ℕ) (p 
     unfolding expansion
     emits_built = rw (← e) refl
 
-    -- as many as the item reserves
-    pub built_room : (is : List Instruction) (room : ℕ) → is ≡ instructions p a → pseudo_words p s ≤ room → length is ≤ room
+    -- as many as the item reserves, and no more than an expansion has room for
+    pub built_room : (is : List Instruction) (room : ℕ) → is ≡ instructions p a → pseudo_words p s ≤ room → (length is ≤ LONGEST) × (length is ≤ room)
     unfolding expansion
     built_room is room g h =
         let sized : length is ≡ pseudo_words p s = ap length g ∙ (rw (← e) at (expansion_fits const place p s)).0 in
-        omega (arith, sized)
+        (omega (arith, sized, (words_few (Some p) s).1), omega (arith, sized))

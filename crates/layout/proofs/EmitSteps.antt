@@ -162,6 +162,7 @@ abbrev EmittingIn : Scope → (t i w : List ℕ) → ℕ → ℕ → Type 0
 EmittingIn z t i w k at = Emitting z.base (constant z.known) (label_address z.base z.state) t (items_in z) i w k at
 
 pub record EmitLoop (names : Names) (starts : Starts) (i₀ : List ℕ) (count : ℕ) (w₀ i w : List ℕ) (k at : ℕ) : Type 0 where
+  pub within : k ≤ count
   pub items_sized : length i ≡ length i₀
   pub words_sized : length w ≡ length w₀
   pub emitting : (u : EmitReady names starts i₀ count w₀) → EmittingIn u.scope names.labels.now.text.now i w k at
@@ -178,6 +179,7 @@ module _ {names : Names} {starts : Starts} {i₀ : List ℕ} {count : ℕ} {w₀
   pub emit-first : EmitLoop names starts i₀ count w₀ i₀ w₀ 0 0
   emit-first =
       record {
+        within = omega arith;
         items_sized = refl;
         words_sized = refl;
         emitting = λ u.

@@ -108,6 +108,7 @@ module _ {look : List ℕ → Option ℕ} {ws : List LabelWord} {bytes₀ d : Li
 -- ---- in the code: d was d₀, whatever that and the records of label words and labels stood for
 
 pub record Fixing (labels : Labels) (w : List ℕ) (words : ℕ) (d₀ d : List ℕ) (i : ℕ) : Type 0 where
+  pub within : i ≤ words
   pub sized : length d ≡ length d₀
   pub filling : (u : FillReady labels w words d₀)
       → Filling (label_address u.base u.state) u.state.rest.own.stored.label_words u.state.rest.own.stored.bytes d i
@@ -120,6 +121,7 @@ module _ {labels : Labels} {w : List ℕ} {words : ℕ} {d₀ : List ℕ} where
   pub fixing_first : Fixing labels w words d₀ d₀ 0
   fixing_first =
       record {
+        within = omega arith;
         sized = refl;
         filling = λ u. record { bytes = u.state.rest.own.stored.bytes; sized = refl; stored = u.stored.bytes; goes = refl };
       }
@@ -154,6 +156,7 @@ module _ {labels : Labels} {w : List ℕ} {words : ℕ} {d₀ : List ℕ} where
               → (d' : List ℕ) → length d' ≡ length d → d' ≡ put r.at (little_endian 4 a) d → Fixing labels w words d₀ d' (i + 1)
           fixing_goes a known d' size written =
               record {
+                within = omega arith;
                 sized = size ∙ m.sized;
                 filling = λ u. filling_goes (m.filling u) _ (label_word_of labels.text.now r) (word_of u) (omega (arith, u.stored.label_words.counted)) a
                     (rw is at (known u.base u.state u.labels)) (word_fits u.stored u.labels.table.text i more r e) d' size written;

@@ -8,7 +8,7 @@ use mathlib.Core.Bool.{Bool, true, false}
 use mathlib.Core.List.{List, [], ◌∷◌, ◌++◌}
 use Rattle.std.proofs.Common.{Option, None, Some}
 use lib.Dec.{eqb, ltb}
-use lib.ListN.{length, take, drop, get_or, set, replicate, length-set, length-append, length-replicate, get_or-replicate, get_or-append}
+use lib.ListN.{length, take, drop, get_or, set, replicate, length-set, length-append, length-replicate, drop_of_length-le, get_or-replicate, get_or-append}
 use lib.Seq.{drop-cons, drop-drop, get_or-set_same, get_or-set_other, get_or-append_seam}
 use borrow.Author.Tests.{eq-eqb, ne_eqb, eqb-true, eqb-false, ltb-true, ltb-false}
 use Rattle.std.specs.Simd.{first_chunks}
@@ -77,17 +77,30 @@ mix_pair s h j m l pairs e v is =
     rw (value, ← after) (mix_two s h i m inside)
 
 -- what is left at the end: one byte, or none
-module _ (s : List ℕ) (h i : ℕ) (m : Mixing s h i) where
-  pub mix_one : (last : List ℕ) → last ≡ drop i s → length last ≤ 1 → (b : ℕ) → Some b ≡ slice_get last 0 → (h * 2654435761 + b) % 4294967296 ≡ mixed 0 s
+module _ (s : List ℕ) (h i : ℕ) where
+  pub mix_one : i < length s → length s ≤ i + 1 → (h * 2654435761 + get_or s i 0) % 4294967296 ≡ mixed h (drop i s)
   unfolding mixed
-  mix_one [] e l b is = cc
-  mix_one (x ∷ []) e l b is = ap (λ (c : ℕ). (h * 2654435761 + c) % 4294967296) (same_Some _ _ is) ∙ ap (mixed h) e ∙ m.goes
-  mix_one (x ∷ y ∷ ys) e l b is = absurd (omega arith)
+  mix_one l e =
+      let one : drop i s ≡ get_or s i 0 ∷ [] =
+      drop-cons s i 0 l ∙ ap (λ (r : List ℕ). get_or s i 0 ∷ r) (drop_of_length-le s {i = suc i} (omega arith)) in
+      sym (ap (mixed h) one)
 
-  pub mix_none : (last : List ℕ) → last ≡ drop i s → None ≡ slice_get last 0 → h ≡ mixed 0 s
+  pub mix_none : length s ≤ i → h ≡ mixed h (drop i s)
   unfolding mixed
-  mix_none [] e is = ap (mixed h) e ∙ m.goes
-  mix_none (x ∷ xs) e is = cc
+  mix_none l = sym (ap (mixed h) (drop_of_length-le s {i = i} l))
+
+-- the same of what remains behind the pairs
+module _ (s : List ℕ) (h i : ℕ) (m : Mixing s h i) where
+  pub mix_last : (last : List ℕ) → last ≡ drop i s → length last ≤ 1 → (b : ℕ) → Some b ≡ slice_get last 0 → (h * 2654435761 + b) % 4294967296 ≡ mixed 0 s
+  unfolding mixed
+  mix_last [] e l b is = cc
+  mix_last (x ∷ []) e l b is = ap (λ (c : ℕ). (h * 2654435761 + c) % 4294967296) (same_Some _ _ is) ∙ ap (mixed h) e ∙ m.goes
+  mix_last (x ∷ y ∷ ys) e l b is = absurd (omega arith)
+
+  pub mix_all : (last : List ℕ) → last ≡ drop i s → None ≡ slice_get last 0 → h ≡ mixed 0 s
+  unfolding mixed
+  mix_all [] e is = ap (mixed h) e ∙ m.goes
+  mix_all (x ∷ xs) e is = cc
 
 -- ---- a search in order
 

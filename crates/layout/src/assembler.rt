@@ -12,7 +12,9 @@ use crate::addresses::Starts;
 use crate::emit::emit_items;
 use crate::equates::Equates;
 use crate::labels::Labels;
-use crate::limits::{BASE_LIMIT, Room, TEXT_LIMIT};
+use crate::limits::{
+    BASE_LIMIT, EQUATE_LIMIT, EXPR_SIZE, LABEL_WORD_LIMIT, LABEL_WORD_SIZE, Room, TEXT_LIMIT,
+};
 use crate::names::Names;
 use crate::order::order_labels;
 use crate::refusal::{Refusal, RefusedAt};
@@ -190,8 +192,8 @@ fn lay_lines(
 {
     // the stage's own tables, as large as their limits ask: the index over labels, expressions, label words
     let mut label_index = [0u16; 2048];
-    let mut exprs = [0u8; 4096];
-    let mut label_words = [0u8; 16384];
+    let mut exprs = [0u8; EQUATE_LIMIT * EXPR_SIZE];
+    let mut label_words = [0u8; LABEL_WORD_LIMIT * LABEL_WORD_SIZE];
     let room = Room::of(
         words.len(),
         data_bytes.len(),

@@ -112,7 +112,7 @@ fn is_label_name(s: &[u8]) -> bool
     let Some((&first, rest)) = s.split_first() else {
         return false;
     };
-    is_label_start(first) & rest.iter().all(|&b| is_label_byte(b))
+    is_label_start(first) && rest.iter().all(|&b| is_label_byte(b))
 }
 
 // An operand that is no number: a label's name for `.word`, else refused.

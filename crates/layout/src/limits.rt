@@ -26,6 +26,11 @@ pub const EQUATE_SIZE: usize = 24;
 
 pub const ITEM_SIZE: usize = 24;
 
+// The layout's own records: an equate's expression, a label word.
+pub const EXPR_SIZE: usize = 16;
+
+pub const LABEL_WORD_SIZE: usize = 16;
+
 // How much may be laid out: each limit met with what is lent.
 #[derive(Clone, Copy)]
 pub struct Room {

@@ -38,7 +38,10 @@ pub fn put_string(dst: &mut [u8], s: &[u8], size: usize)
         put_decoded(dst, s);
         return;
     }
-    put_bytes(dst, s);
+    // By place: `put_bytes` would be a call of `memmove` here, which the archive for C is not to need from outside.
+    for i in 0..s.len() {
+        dst[i] = s[i];
+    }
 }
 
 pub fn put_zeros(dst: &mut [u8], n: usize)

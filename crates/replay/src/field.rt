@@ -50,8 +50,10 @@ pub fn after_field(s: &[u8]) -> &[u8]
 fn written_first(s: &[u8]) -> Written
     ensures { result ≡ written_first s.now }
 {
+    // most bytes are no `%`, and are told by one test
     match s {
-        [b'%', high, low, ..] => Written {
+        [b, ..] if *b != b'%' => Written { byte: *b, width: 1 },
+        [_, high, low, ..] => Written {
             byte: (digit(*high) % 16 * 16 + digit(*low) % 16) as u8,
             width: 3,
         },

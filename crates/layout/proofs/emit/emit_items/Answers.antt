@@ -50,6 +50,7 @@ loop-k-preserved c =
     let more = c.loop-k-test.true in
     let q : c.emit_item.result ≡ Ok c.in_ok-n.n = search rules in
     record {
+      within = omega (arith, more);
       items_sized = search rules;
       words_sized = search rules;
       emitting = λ u. emit_goes u inv more c.get-item.result c.get-item.ensures _ _ _ (rw q at c.emit_item.ensures) refl _ c.address.ensures _ c.put.auto.table c.put.ensures;

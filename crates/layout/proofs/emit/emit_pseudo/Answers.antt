@@ -35,7 +35,7 @@ module _ (l : After-look_up) where
     room : (is : List Instruction) → is ≡ instructions l.args.pseudo a → length is ≤ length l.args.dst.now
     room is g =
         let names = l.requires.0.it in
-        built_room (constant names.known) (label_address names.base names.state) _ _ a (sym e ∙ come names l.requires.0.stands) is _ g l.requires.1
+        (built_room (constant names.known) (label_address names.base names.state) _ _ a (sym e ∙ come names l.requires.0.stands) is _ g l.requires.1).1
 
 pub put_expansion-requires : goal.put_expansion-requires
 put_expansion-requires c = room (goal.at.put_expansion-requires c).After-look_up _ (ap looked_up_as c.in_ok-arguments.was) c.build.result c.build.ensures

@@ -4,7 +4,7 @@ use mathlib.Core.Path.{◌≡◌, refl}
 use native.Mathlib.Omega.{arith}
 use lib.ListN.{length}
 use Rattle.layout.specs.Code.Index.{bucket_of}
-use Rattle.layout.proofs.IndexLaws.{Mixing, mix_pair, mix_one, mix_none}
+use Rattle.layout.proofs.IndexLaws.{Mixing, mix_pair, mix_last, mix_all}
 use Rattle.layout.proofs.index.bucket_of.Goals as goal
 use Rattle.layout.proofs.index.bucket_of.Goals.{in-Some, in_default, After-first}
 
@@ -25,7 +25,7 @@ returns c =
     let d = (goal.at.returns c).After-first in
     elim c.match-first.branch [
       | in-Some w ↦
-          rw (w.h-is, mix_one c.args.name.now c.loop-pair.h _ (pairs d) _ c.as_chunks.ensures.back (omega (arith, c.as_chunks.ensures.back_len)) _ w.in-Some.ensures.value) refl
+          rw (w.h-is, mix_last c.args.name.now c.loop-pair.h _ (pairs d) _ c.as_chunks.ensures.back (omega (arith, c.as_chunks.ensures.back_len)) _ w.in-Some.ensures.value) refl
       | in_default w ↦
-          rw (w.h-is, mix_none c.args.name.now c.loop-pair.h _ (pairs d) _ c.as_chunks.ensures.back w.in_default.ensures.value) refl
+          rw (w.h-is, mix_all c.args.name.now c.loop-pair.h _ (pairs d) _ c.as_chunks.ensures.back w.in_default.ensures.value) refl
     ]
