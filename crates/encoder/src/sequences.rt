@@ -1,12 +1,12 @@
 // Instruction sequences, built of registers and a number or an address, and their words.
-ghost use Rattle.std.specs.Prelude.{◌≡◌, ◌≤◌, List, length, take, map};
-ghost use Rattle.encoder.specs.declared.instruction.Instruction as declared;
+ghost use Rattle.std.specs.Prelude.{◌≡◌, ◌≤◌, length, map};
 ghost use Rattle.encoder.specs.declared.instruction.Instruction.TheVariants.{Addi, Lui, Lbu, Lw, Sw, Beq, Jal, Sub};
 ghost use Rattle.encoder.specs.declared.sequences.TheConstants.{LONGEST};
 ghost use Rattle.encoder.specs.Encoding.{encoded};
 ghost use Rattle.encoder.specs.Split.{load_pair};
 ghost use Rattle.encoder.specs.Sequences.{load_single, pushes, pops, prints, randoms, prints_str, reads, reads_byte};
 ghost use Rattle.encoder.specs.Code.Meanings.{numbered};
+ghost use Rattle.encoder.specs.Code.Slots.{longest, instructions_in};
 ghost use Rattle.encoder.specs.Code.Words.{Puts};
 
 use crate::encode;
@@ -14,7 +14,6 @@ use crate::error::EncodeError;
 use crate::instruction::Instruction;
 use crate::split::{lower_part, upper_part};
 use numbers::registers::Register;
-use std::marker::Model;
 
 // The longest sequence, print_str's.
 pub const LONGEST: usize = 11;
@@ -36,56 +35,10 @@ pub struct Expansion {
     pub count: usize,
 }
 
-impl Model for Expansion {
-    ghost use Rattle.std.specs.Prelude.{◌-◌, ◌≡◌, ◌≤◌, ◌++◌, List, length, take, drop, map, replicate};
-    ghost use Rattle.std.proofs.Common.{◌∙◌, ap, ap₂, sym, length-take-le};
-    ghost use Rattle.std.proofs.lemmas.List.{take-append-drop, length-map, map-id};
-    ghost use Rattle.std.proofs.lemmas.Simd.{map-map};
-    ghost use Rattle.encoder.specs.declared.instruction.Instruction as declared;
-    ghost use Rattle.encoder.specs.declared.instruction.Instruction.TheVariants.{Ecall};
-    ghost use Rattle.encoder.specs.declared.sequences.Slot.{Slot};
-    ghost use Rattle.encoder.specs.declared.sequences.TheConstants.{LONGEST};
-
-    ghost Value = { List declared.Instruction };
-
-    ghost view = { λ e. map (λ s. s.inst) (take e.count e.slots) };
-
-    // The slots' length is their type's, which a proof that opens an expansion is not told. Behind those that are counted stand ecalls.
-    ghost invariant = { λ e. (e.count ≤ LONGEST) × (length e.slots ≡ LONGEST)
-        × (e.count ≤ length e.slots) × (drop e.count e.slots ≡ replicate (LONGEST - e.count) (record { inst = Ecall })) };
-
-    // So the list gives slots and count back, and an expansion may be copied.
-    ghost inverse = { λ is. record {
-      slots = map (λ (i : declared.Instruction). record { inst = i }) is ++ replicate (LONGEST - length is) (record { inst = Ecall });
-      count = length is;
-    } };
-
-    ghost inverse_ok = { λ e h i.
-        let size = length-map (take e.count e.slots) (λ (s : Slot). s.inst) ∙ length-take-le e.count e.slots h.2 in record {
-          slots = (ap₂ (λ (a b : List Slot). a ++ b)
-              (map-map (λ (j : declared.Instruction). record { inst = j }) (λ (s : Slot). s.inst) (take e.count e.slots) ∙ map-id (take e.count e.slots))
-              (ap (λ n. replicate (LONGEST - n) (record { inst = Ecall })) size ∙ sym h.3)
-              ∙ take-append-drop e.count e.slots) i;
-          count = size i;
-        } };
-}
-
 impl Expansion {
-    // The instructions in the first slots, as many as are counted: all, where there are fewer slots.
-    pub fn new(mut slots: [Slot; LONGEST], count: usize) -> Self
-        ensures { result ≡ map (λ s. s.inst) (take count slots) }
-    {
-        let counted = count.min(LONGEST);
-        slots[counted..].fill(ECALL);
-        Expansion {
-            slots,
-            count: counted,
-        }
-    }
-
     fn of<const N: usize>(instructions: [Slot; N]) -> Self
         requires { N ≤ LONGEST }
-        ensures { result ≡ map (λ s. s.inst) instructions.entry }
+        ensures { instructions_in result ≡ map (λ s. s.inst) instructions.entry }
     {
         let mut slots = [ECALL; LONGEST];
         slots[..N].copy_from_slice(&instructions);
@@ -194,21 +147,21 @@ fn load_pair(rd: Register, b: u32) -> [Slot; 2]
 
 // A number by a single addi from x0. One that 12 signed bits do not hold has no word.
 pub fn load_single(rd: Register, v: i32) -> Expansion
-    ensures { result ≡ load_single rd.0 v }
+    ensures { instructions_in result ≡ load_single rd.0 v }
 {
     Expansion::of([addi(rd, Register::ZERO, v)])
 }
 
 // The pair alone: what leaves b in rd.
 pub fn load_word(rd: Register, b: u32) -> Expansion
-    ensures { result ≡ load_pair rd.0 b }
+    ensures { instructions_in result ≡ load_pair rd.0 b }
 {
     Expansion::of(load_pair(rd, b))
 }
 
 // A register onto the stack.
 pub fn push(rs: Register) -> Expansion
-    ensures { result ≡ pushes rs.0 }
+    ensures { instructions_in result ≡ pushes rs.0 }
 {
     let sp = Register::SP;
     Expansion::of([addi(sp, sp, -4), sw(rs, sp, 0)])
@@ -216,7 +169,7 @@ pub fn push(rs: Register) -> Expansion
 
 // A register from the stack.
 pub fn pop(rd: Register) -> Expansion
-    ensures { result ≡ pops rd.0 }
+    ensures { instructions_in result ≡ pops rd.0 }
 {
     let sp = Register::SP;
     Expansion::of([lw(rd, sp, 0), addi(sp, sp, 4)])
@@ -224,7 +177,7 @@ pub fn pop(rd: Register) -> Expansion
 
 // a7 = 1000, a0 = rd, ecall.
 pub fn print(rd: Register) -> Expansion
-    ensures { result ≡ prints rd.0 }
+    ensures { instructions_in result ≡ prints rd.0 }
 {
     Expansion::of([
         addi(Register::A7, Register::ZERO, 1000),
@@ -235,7 +188,7 @@ pub fn print(rd: Register) -> Expansion
 
 // The string at address a, printed: its length is counted up to the byte 0, then it is written to standard output.
 pub fn print_str(a: u32) -> Expansion
-    ensures { result ≡ prints_str a }
+    ensures { instructions_in result ≡ prints_str a }
 {
     let zero = Register::ZERO;
     let t0 = Register::T0;
@@ -259,7 +212,7 @@ pub fn print_str(a: u32) -> Expansion
 
 // Up to 256 bytes of standard input, to address a.
 pub fn read(a: u32) -> Expansion
-    ensures { result ≡ reads a }
+    ensures { instructions_in result ≡ reads a }
 {
     let zero = Register::ZERO;
     let [upper, lower] = load_pair(Register::A1, a);
@@ -275,7 +228,7 @@ pub fn read(a: u32) -> Expansion
 
 // a7 = 1010, a0 = a, ecall.
 pub fn read_byte(a: u32) -> Expansion
-    ensures { result ≡ reads_byte a }
+    ensures { instructions_in result ≡ reads_byte a }
 {
     let [upper, lower] = load_pair(Register::A0, a);
     Expansion::of([
@@ -288,7 +241,7 @@ pub fn read_byte(a: u32) -> Expansion
 
 // Four random bytes into a place on the stack, which is then loaded.
 pub fn random(rd: Register) -> Expansion
-    ensures { result ≡ randoms rd.0 }
+    ensures { instructions_in result ≡ randoms rd.0 }
 {
     let sp = Register::SP;
     let zero = Register::ZERO;
@@ -306,8 +259,8 @@ pub fn random(rd: Register) -> Expansion
 
 // The words of the instructions, in order, into the start of what is lent: how many they are. They stop at the first that is refused.
 pub fn put_words(dst: &mut [u32], e: Expansion) -> Result<usize, EncodeError>
-    requires { length e ≤ length dst.old }
-    ensures { Puts dst (numbered result) (encoded e) }
+    requires { (e.count ≤ longest) × (e.count ≤ length dst.old) }
+    ensures { Puts dst (numbered result) (encoded (instructions_in e)) }
 {
     for k in 0..e.count {
         dst[k] = encode(e.slots[k].inst)?;

@@ -1,7 +1,7 @@
 -- Items to words: what an item emits, by what its operands come to, into what is lent.
 use Prim.Native.Nat.{ℕ, ◌≤◌}
 use native.Mathlib.Omega.{arith}
-use mathlib.Core.Path.{◌≡◌, refl, ap, ◌∙◌}
+use mathlib.Core.Path.{◌≡◌, refl, sym, ap, ◌∙◌}
 use mathlib.Core.List.{List, [], ◌∷◌}
 use Rattle.std.proofs.Common.{Option, Some}
 use lib.IntN.{ℤ}
@@ -9,10 +9,11 @@ use lib.ListN.{length, set}
 use lib.Seq.{set_split}
 use Rattle.std.proofs.Common.{Ok, Err}
 use Rattle.numbers.specs.Results.{and_then}
-use Rattle.encoder.specs.declared.instruction.Instruction.{Instruction}
-use Rattle.encoder.specs.declared.sequences.TheConstants.{LONGEST}
+use Rattle.encoder.specs.declared.sequences.Expansion.{Expansion}
 use Rattle.encoder.specs.Encoding.{encoded}
+use Rattle.encoder.specs.Code.Slots.{longest, instructions_in}
 use Rattle.encoder.specs.Code.Words.{WordsPut}
+use Rattle.encoder.proofs.PutLaws.{slots_size}
 use Rattle.layout.specs.declared.pseudo.Pseudo.{Pseudo}
 use Rattle.layout.specs.Pseudos.{pseudo_operands, pseudo_words}
 use Rattle.layout.specs.Expansions.{wanted, Arguments, looked_up, instructions, expansion}
@@ -38,8 +39,9 @@ module _ (const : List ℕ → Option ℤ) (place : List ℕ → Option ℕ) (p 
     emits_built = rw (← e) refl
 
     -- as many as the item reserves, and no more than an expansion has room for
-    pub built_room : (is : List Instruction) (room : ℕ) → is ≡ instructions p a → pseudo_words p s ≤ room → (length is ≤ LONGEST) × (length is ≤ room)
+    pub built_room : (x : Expansion) (room : ℕ) → instructions_in x ≡ instructions p a → pseudo_words p s ≤ room → (x.count ≤ longest) × (x.count ≤ room)
     unfolding expansion
-    built_room is room g h =
-        let sized : length is ≡ pseudo_words p s = ap length g ∙ (rw (← e) at (expansion_fits const place p s)).0 in
+    built_room x room g h =
+        let sized : x.count ≡ pseudo_words p s =
+        sym (slots_size x.slots 0 x.count) ∙ ap length g ∙ (rw (← e) at (expansion_fits const place p s)).0 in
         (omega (arith, sized, (words_few (Some p) s).1), omega (arith, sized))

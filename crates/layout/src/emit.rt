@@ -5,6 +5,7 @@ ghost use Rattle.std.specs.Prelude.{Option, Some};
 ghost use Rattle.std.specs.Prelude.{Ok};
 ghost use Rattle.numbers.specs.Code.Spans.{spanned};
 ghost use Rattle.encoder.specs.Encoding.{encoded};
+ghost use Rattle.encoder.specs.Code.Slots.{longest, instructions_in};
 ghost use Rattle.encoder.specs.Code.Words.{Puts};
 ghost use Rattle.layout.specs.declared.pseudo.Pseudo as code;
 ghost use Rattle.layout.specs.Pseudos.{item_kind, pseudo_words, reserved_words};
@@ -25,8 +26,8 @@ use numbers::text::{Span, span_bytes};
 
 // The words of an expansion. Of a pseudo's the encoder refuses none (`emission-refused`).
 fn put_expansion(dst: &mut [u32], e: Expansion) -> Result<usize, Refusal>
-    requires { length e ≤ length dst.old }
-    ensures { Puts dst (numbered result) (encoded e) }
+    requires { (e.count ≤ longest) × (e.count ≤ length dst.old) }
+    ensures { Puts dst (numbered result) (encoded (instructions_in e)) }
 {
     Ok(put_words(dst, e)?)
 }

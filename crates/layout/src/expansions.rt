@@ -1,4 +1,5 @@
 // A pseudo-instruction's names looked up, and its instructions built.
+ghost use Rattle.encoder.specs.Code.Slots.{instructions_in};
 ghost use Rattle.layout.specs.Code.Numbers.{numbered};
 ghost use Rattle.std.specs.Prelude.{◌≡◌};
 ghost use Rattle.std.specs.Prelude.{None, Some};
@@ -134,7 +135,7 @@ impl Names<'_> {
 
 // The instructions of a pseudo, of a register and 32 bits.
 fn build_word(pseudo: Pseudo, rd: Register, b: u32) -> Expansion
-    ensures { result ≡ built «pseudo» rd.0 b }
+    ensures { instructions_in result ≡ built «pseudo» rd.0 b }
 {
     match pseudo {
         Pseudo::Li => load_word(rd, b),
@@ -151,7 +152,7 @@ fn build_word(pseudo: Pseudo, rd: Register, b: u32) -> Expansion
 
 // The instructions of a pseudo. Only li has a number that a single addi loads.
 pub fn build(pseudo: Pseudo, arguments: Arguments) -> Expansion
-    ensures { result ≡ instructions «pseudo» (arguments_of arguments) }
+    ensures { instructions_in result ≡ instructions «pseudo» (arguments_of arguments) }
 {
     match arguments {
         Arguments::Word(rd, b) => build_word(pseudo, rd, b),

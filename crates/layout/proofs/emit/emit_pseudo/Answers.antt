@@ -3,10 +3,10 @@ use Prim.Native.Nat.{ℕ, ◌≤◌}
 use mathlib.Core.Path.{◌≡◌, refl, sym, ap, ◌∙◌}
 use Rattle.std.proofs.Common.{Some}
 use lib.ListN.{length}
-use mathlib.Core.List.{List}
 use Rattle.std.proofs.Common.{Result, Ok, Err}
 use Rattle.numbers.specs.Results.{and_then}
-use Rattle.encoder.specs.declared.instruction.Instruction.{Instruction}
+use Rattle.encoder.specs.declared.sequences.Expansion.{Expansion}
+use Rattle.encoder.specs.Code.Slots.{longest, instructions_in}
 use Rattle.encoder.specs.Encoding.{encoded}
 use Rattle.layout.specs.Addresses.{label_address}
 use Rattle.layout.specs.Rounds.{constant}
@@ -32,10 +32,10 @@ module _ (l : After-look_up) where
     emits : (names : Scope) → Stand names → encoded (instructions l.args.pseudo a) ≡ emission_in names (Some l.args.pseudo) l.args.s.now
     emits names stand = emits_built (constant names.known) (label_address names.base names.state) _ _ a (sym e ∙ come names stand)
 
-    room : (is : List Instruction) → is ≡ instructions l.args.pseudo a → length is ≤ length l.args.dst.now
-    room is g =
+    room : (x : Expansion) → instructions_in x ≡ instructions l.args.pseudo a → (x.count ≤ longest) × (x.count ≤ length l.args.dst.now)
+    room x g =
         let names = l.requires.0.it in
-        (built_room (constant names.known) (label_address names.base names.state) _ _ a (sym e ∙ come names l.requires.0.stands) is _ g l.requires.1).1
+        built_room (constant names.known) (label_address names.base names.state) _ _ a (sym e ∙ come names l.requires.0.stands) x _ g l.requires.1
 
 pub put_expansion-requires : goal.put_expansion-requires
 put_expansion-requires c = room (goal.at.put_expansion-requires c).After-look_up _ (ap looked_up_as c.in_ok-arguments.was) c.build.result c.build.ensures

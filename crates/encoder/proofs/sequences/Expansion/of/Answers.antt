@@ -1,16 +1,16 @@
--- `sequences::Expansion::of`: what is copied has N slots, and ecalls are left behind them.
-use Rattle.std.proofs.Common.{◌≡◌, ◌≤◌, ◌-◌, ◌++◌, length, drop, replicate, length-append, length-drop, ◌∙◌, rules, arith}
-use Rattle.std.proofs.lemmas.List.{drop-replicate}
-use Rattle.std.proofs.lemmas.Slice.{drop-append-drop}
+-- `sequences::Expansion::of`: the first slots are those that are copied.
+use Rattle.std.proofs.Common.{◌≡◌, ℕ, List, ◌++◌, length, take, drop, map, replicate, length-append, sym, ap, ◌∙◌, rules, arith}
+use Rattle.std.proofs.Math.Seq.{take-append_seam}
 use Rattle.encoder.specs.declared.sequences.Slot.{Slot}
 use Rattle.encoder.specs.declared.instruction.Instruction.TheVariants.{Ecall}
+use Rattle.encoder.proofs.PutLaws.{slots_taken}
 use Rattle.encoder.proofs.sequences.Expansion.of.Goals as goal
 
-pub invariant_of-result : goal.invariant_of-result
-invariant_of-result g c =
-    let ecall : Slot = record { inst = Ecall } in
-    let few : g.row.N ≤ 11 = c.requires in
-    let sized : length c.copy_from_slice.new.self ≡ g.row.N = search rules in
-    let whole : length (c.copy_from_slice.new.self ++ drop g.row.N (replicate 11 ecall)) ≡ 11 =
-    omega (arith, sized, few, length-append c.copy_from_slice.new.self (drop g.row.N (replicate 11 ecall)), length-drop g.row.N (replicate 11 ecall)) in
-    (few, whole, omega (arith, whole, few), drop-append-drop g.row.N (replicate 11 ecall) c.copy_from_slice.new.self g.row.N (omega arith) sized ∙ drop-replicate g.row.N 11 ecall)
+pub returns : goal.returns
+returns g c =
+    let copied = c.copy_from_slice.new.self in
+    let behind : List Slot = drop g.row.N (replicate 11 (record { inst = Ecall })) in
+    let sized : length copied ≡ g.row.N = search rules in
+    let same : copied ≡ c.args.instructions = search rules in
+    let first : take g.row.N (copied ++ behind) ≡ copied = ap (λ (n : ℕ). take n (copied ++ behind)) (sym sized) ∙ take-append_seam copied behind in
+    slots_taken (copied ++ behind) 0 g.row.N (omega (arith, sized, length-append copied behind)) ∙ ap (map (λ (s : Slot). s.inst)) (first ∙ same)
