@@ -1,7 +1,7 @@
 -- Items to words: what an item emits, by what its operands come to, into what is lent.
 use Prim.Native.Nat.{ℕ, ◌≤◌}
 use native.Mathlib.Omega.{arith}
-use mathlib.Core.Path.{◌≡◌, refl, sym, ap, ◌∙◌}
+use mathlib.Core.Path.{◌≡◌, refl, ap, ◌∙◌}
 use mathlib.Core.List.{List, [], ◌∷◌}
 use Rattle.std.proofs.Common.{Option, Some}
 use lib.IntN.{ℤ}
@@ -9,6 +9,7 @@ use lib.ListN.{length, set}
 use lib.Seq.{set_split}
 use Rattle.std.proofs.Common.{Ok, Err}
 use Rattle.numbers.specs.Results.{and_then}
+use Rattle.encoder.specs.declared.instruction.Instruction.{Instruction}
 use Rattle.encoder.specs.declared.sequences.Expansion.{Expansion}
 use Rattle.encoder.specs.Encoding.{encoded}
 use Rattle.encoder.specs.Code.Slots.{longest, instructions_in}
@@ -38,10 +39,16 @@ module _ (const : List ℕ → Option ℤ) (place : List ℕ → Option ℕ) (p 
     unfolding expansion
     emits_built = rw (← e) refl
 
-    -- as many as the item reserves, and no more than an expansion has room for
-    pub built_room : (x : Expansion) (room : ℕ) → instructions_in x ≡ instructions p a → pseudo_words p s ≤ room → (x.count ≤ longest) × (x.count ≤ room)
+    built_size : (is : List Instruction) → is ≡ instructions p a → length is ≡ pseudo_words p s
     unfolding expansion
+    built_size is g = ap length g ∙ (rw (← e) at (expansion_fits const place p s)).0
+
+    -- as many as the item reserves
+    pub built_length : (is : List Instruction) (room : ℕ) → is ≡ instructions p a → pseudo_words p s ≤ room → length is ≤ room
+    built_length is room g h = omega (arith, built_size is g)
+
+    -- and no more than an expansion has room for
+    pub built_room : (x : Expansion) (room : ℕ) → instructions_in x ≡ instructions p a → pseudo_words p s ≤ room → (x.count ≤ longest) × (x.count ≤ room)
     built_room x room g h =
-        let sized : x.count ≡ pseudo_words p s =
-        sym (slots_size x.slots 0 x.count) ∙ ap length g ∙ (rw (← e) at (expansion_fits const place p s)).0 in
-        (omega (arith, sized, (words_few (Some p) s).1), omega (arith, sized))
+        let sized : length (instructions_in x) ≡ x.count = slots_size x.slots 0 x.count in
+        (omega (arith, sized, built_size _ g, (words_few (Some p) s).1), omega (arith, sized, built_length _ room g h))
